@@ -1,0 +1,6 @@
+pub mod Contents
+pub mod Divisors
+pub mod Drafts
+pub mod Refusals
+pub mod Sums
+pub mod Tables

@@ -1,0 +1,46 @@
+-- A job table is the list of its rows in the order in which they were added. Places count from 0; the number by which
+-- a user names a row is its place + 1.
+use Prim.Native.Nat.{ℕ, _+_, _*_, _/_, _%_, _≤_, _<_, min}
+use Rattle.feasibility.specs.Sums.{Σ<}
+use Rattle.feasibility.specs.declared.row.Row.{Row}
+use lib.Dec.{eqb}
+use lib.ListN.{length, getD}
+use mathlib.Core.Bool.{cond}
+use mathlib.Core.List.{List, [], _∷_}
+use mathlib.Core.Path.{_≡_}
+
+-- What stands past the end of a table, as the code reads it.
+abbrev pub blank : Row
+blank = record { cost = 0; period = 0; store = 0 }
+
+-- The row at place j.
+abbrev pub row : List Row → ℕ → Row
+row rows j = getD rows j blank
+
+-- The limits of a row: a cost of 1 to its period, a period of at most 65,535, a store of at most 8.
+abbrev pub Limited : Row → Type 0
+Limited x = (1 ≤ x .cost) × (x .cost ≤ x .period) × (x .period ≤ 65535) × (x .store ≤ 8)
+
+abbrev pub Sound : List Row → Type 0
+Sound rows = (j : ℕ) → j < length rows → Limited (row rows j)
+
+-- Every period divides m.
+abbrev pub Common : List Row → ℕ → Type 0
+Common rows m = (j : ℕ) → j < length rows → m % row rows j .period ≡ 0
+
+-- h is the hyperperiod: the least positive number that every period divides.
+abbrev pub Hyperperiod : List Row → ℕ → Type 0
+Hyperperiod rows h = (0 < h) × Common rows h × ((m : ℕ) → 0 < m → Common rows m → h ≤ m)
+
+-- The units that all rows ask for in h ticks.
+abbrev pub load : List Row → ℕ → ℕ
+load rows h = Σ< (length rows) (λ j. row rows j .cost * (h / row rows j .period))
+
+-- The lower of two periods, where 0 stands for none.
+abbrev pub lower : ℕ → ℕ → ℕ
+lower p q = cond (eqb p 0) q (cond (eqb q 0) p (min p q))
+
+-- The least period among the rows that use the store r, 0 if none does.
+abbrev pub least-period : List Row → ℕ → ℕ
+least-period [] r = 0
+least-period (x ∷ xs) r = lower (cond (eqb (x .store) r) (x .period) 0) (least-period xs r)
