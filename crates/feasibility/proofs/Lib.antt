@@ -1,2 +1,3 @@
 pub mod Euclid
 pub mod Pushes
+pub mod Totals

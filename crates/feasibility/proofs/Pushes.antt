@@ -1,5 +1,5 @@
 -- One row more at the end of a table.
-use Prim.Native.Nat.{ℕ, _+_, _-_, _%_, _≤_, _<_, min}
+use Prim.Native.Nat.{ℕ, _+_, _%_, _≤_, _<_, min}
 use Rattle.feasibility.specs.Divisors.{Least-common}
 use Rattle.feasibility.specs.Tables.{row, blank, Limited, Sound, Common, Hyperperiod, lower, least-period}
 use Rattle.feasibility.specs.declared.row.Row.{Row}
@@ -94,42 +94,26 @@ least-push (y ∷ xs) x r =
     ap (lower (cond (eqb (y .store) r) (y .period) 0)) (least-push xs x r) ∙
     lower-assoc (cond (eqb (y .store) r) (y .period) 0) (least-period xs r) (cond (eqb (x .store) r) (x .period) 0)
 
--- the least periods of the stores 1 to 8, of which k + 1 is at place k, with a row that uses a store and one that does not
+-- the least periods by store, with one row more
 pub least-with :
-    (least : List ℕ) (rows : List Row) (x : Row) →
-    ((k : ℕ) → k < 8 → getD least k 0 ≡ least-period rows (k + 1)) → length least ≡ 8 → 0 < x .store → x .store ≤ 8 →
-    (k : ℕ) → k < 8 →
-    getD (set least (x .store - 1) (lower (getD least (x .store - 1) 0) (x .period))) k 0 ≡
-    least-period (rows ++ x ∷ []) (k + 1)
-least-with least rows x known long some few k l = at (cases-eq k (x .store - 1)) ∙ sym (least-push rows x (k + 1))
+    (least : List ℕ) (rows : List Row) (x : Row) → ((r : ℕ) → r ≤ 8 → getD least r 0 ≡ least-period rows r) →
+    x .store < length least → (r : ℕ) → r ≤ 8 →
+    getD (set least (x .store) (lower (getD least (x .store) 0) (x .period))) r 0 ≡ least-period (rows ++ x ∷ []) r
+least-with least rows x known room r l = at (cases-eq (x .store) r) ∙ sym (least-push rows x r)
   where
     new : ℕ
-    new = lower (getD least (x .store - 1) 0) (x .period)
+    new = lower (getD least (x .store) 0) (x .period)
 
     Goal : Type 0
     Goal =
-        getD (set least (x .store - 1) new) k 0 ≡
-        lower (least-period rows (k + 1)) (cond (eqb (x .store) (k + 1)) (x .period) 0)
+        getD (set least (x .store) new) r 0 ≡
+        lower (least-period rows r) (cond (eqb (x .store) r) (x .period) 0)
 
-    at : (k ≡ x .store - 1) ⊎ (k ≡ x .store - 1 → ⊥) → Goal
+    at : (x .store ≡ r) ⊎ (x .store ≡ r → ⊥) → Goal
     at (inl e) =
-        let here : x .store ≡ k + 1 = omega arith in
-        ap (λ i. getD (set least (x .store - 1) new) i 0) e ∙ getD-set-same least (x .store - 1) new 0 (omega arith) ∙
-        ap₂ lower (ap (λ i. getD least i 0) (sym e) ∙ known k l)
-        (sym (cond-true (eqb (x .store) (k + 1)) (x .period) 0 (eq-eqb (x .store) (k + 1) here)))
+        ap (λ i. getD (set least (x .store) new) i 0) (sym e) ∙ getD-set-same least (x .store) new 0 room ∙
+        ap₂ lower (ap (λ i. getD least i 0) e ∙ known r l)
+        (sym (cond-true (eqb (x .store) r) (x .period) 0 (eq-eqb (x .store) r e)))
     at (inr ne) =
-        let there : x .store ≡ k + 1 → ⊥ = λ h. omega arith in
-        getD-set-other least (x .store - 1) k new 0 ne ∙ known k l ∙ sym (lower-none (least-period rows (k + 1))) ∙
-        ap (lower (least-period rows (k + 1)))
-        (sym (cond-false (eqb (x .store) (k + 1)) (x .period) 0 (ne-eqb (x .store) (k + 1) there)))
-
-pub least-without :
-    (least : List ℕ) (rows : List Row) (x : Row) →
-    ((k : ℕ) → k < 8 → getD least k 0 ≡ least-period rows (k + 1)) → x .store ≡ 0 →
-    (k : ℕ) → k < 8 → getD least k 0 ≡ least-period (rows ++ x ∷ []) (k + 1)
-least-without least rows x known none k l =
-    let there : x .store ≡ k + 1 → ⊥ = λ h. omega arith in
-    known k l ∙ sym (lower-none (least-period rows (k + 1))) ∙
-    ap (lower (least-period rows (k + 1)))
-    (sym (cond-false (eqb (x .store) (k + 1)) (x .period) 0 (ne-eqb (x .store) (k + 1) there))) ∙
-    sym (least-push rows x (k + 1))
+        getD-set-other least (x .store) r new 0 (λ e. ne (sym e)) ∙ known r l ∙ sym (lower-none (least-period rows r)) ∙
+        ap (lower (least-period rows r)) (sym (cond-false (eqb (x .store) r) (x .period) 0 (ne-eqb (x .store) r ne)))

@@ -1,8 +1,13 @@
 -- What a table holds.
-use Prim.Native.Nat.{ℕ}
+use Prim.Native.Nat.{ℕ, _-_}
+use Rattle.feasibility.specs.Tables.{row, least-period}
 use Rattle.feasibility.specs.declared.row.Row.{Row}
 use Rattle.feasibility.specs.declared.rows.Rows.{Rows}
-use lib.ListN.{take}
+use Rattle.std.specs.declared.option.Option.{Option}
+use Rattle.std.specs.declared.option.Option.the-variants.{Some, None}
+use lib.Dec.{eqb, leb, ltb}
+use lib.ListN.{length, take}
+use mathlib.Core.Bool.{cond, _&&_}
 use mathlib.Core.List.{List}
 
 -- Its rows, in the order in which they were added.
@@ -12,3 +17,12 @@ rows-of t = take (t .count) (t .cells)
 -- The hyperperiod that it keeps.
 abbrev pub hyperperiod-of : Rows → ℕ
 hyperperiod-of t = t .hyperperiod
+
+-- The row under the number n, from 1, if there is one.
+abbrev pub numbered : List Row → ℕ → Option Row
+numbered rows n = cond (ltb 0 n && leb n (length rows)) (Some (row rows (n - 1))) None
+
+-- The least period of the users of the store r, from 1 to 8, if it has any.
+abbrev pub least-told : List Row → ℕ → Option ℕ
+least-told rows r =
+    cond (ltb 0 r && leb r 8) (cond (eqb (least-period rows r) 0) None (Some (least-period rows r))) None

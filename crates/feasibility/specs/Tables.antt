@@ -32,9 +32,13 @@ Common rows m = (j : ℕ) → j < length rows → m % row rows j .period ≡ 0
 abbrev pub Hyperperiod : List Row → ℕ → Type 0
 Hyperperiod rows h = (0 < h) × Common rows h × ((m : ℕ) → 0 < m → Common rows m → h ≤ m)
 
+-- The units that a row asks for in h ticks, of which h / period are periods of its own.
+abbrev pub share : Row → ℕ → ℕ
+share x h = x .cost * (h / x .period)
+
 -- The units that all rows ask for in h ticks.
 abbrev pub load : List Row → ℕ → ℕ
-load rows h = Σ< (length rows) (λ j. row rows j .cost * (h / row rows j .period))
+load rows h = Σ< (length rows) (λ j. share (row rows j) h)
 
 -- The lower of two periods, where 0 stands for none.
 abbrev pub lower : ℕ → ℕ → ℕ

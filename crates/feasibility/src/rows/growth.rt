@@ -27,7 +27,7 @@ impl Rows {
             }; 32],
             count: 0,
             hyperperiod: 1,
-            least: [0; 8],
+            least: [0; 9],
         }
     }
 
@@ -69,14 +69,12 @@ fn place(cells: &mut [Row; 32], count: u32, row: Row)
 }
 
 // The least periods after one row more.
-fn note_period(least: &mut [u32; 8], row: Row)
-    requires { ⌜ Limited row ⌝ }
-    ensures { λ _. ⌜ ((rows : List Row) → ((k : ℕ) → k < 8 → getD (now (least .entry)) k 0 ≡ least-period rows (k + 1)) → (k : ℕ) → k < 8 → getD (now (least .exit)) k 0 ≡ least-period (rows ++ row ∷ []) (k + 1)) ⌝ }
+fn note_period(least: &mut [u32; 9], row: Row)
+    requires { ⌜ row .store ≤ 8 ⌝ }
+    ensures { λ _. ⌜ ((rows : List Row) → ((r : ℕ) → r ≤ 8 → getD (now (least .entry)) r 0 ≡ least-period rows r) → (r : ℕ) → r ≤ 8 → getD (now (least .exit)) r 0 ≡ least-period (rows ++ row ∷ []) r) ⌝ }
 {
-    if row.store > 0 {
-        let at = row.store as usize - 1;
-        least[at] = lower_of(least[at], row.period);
-    }
+    let store = row.store as usize;
+    least[store] = lower_of(least[store], row.period);
 }
 
 // The lower of two periods, where 0 stands for none.

@@ -1,9 +1,9 @@
 // What can be asked of a table, draft or sealed.
 ghost use mathlib.Core.Path.{_≡_};
-ghost use Prim.Native.Nat.{ℕ, _+_, _<_, _≤_};
-ghost use lib.ListN.{length, getD, take};
-ghost use Rattle.feasibility.specs.Contents.{rows-of, hyperperiod-of};
-ghost use Rattle.feasibility.specs.Tables.{Sound, Hyperperiod, least-period};
+ghost use Prim.Native.Nat.{_≤_};
+ghost use lib.ListN.{length};
+ghost use Rattle.feasibility.specs.Contents.{rows-of, hyperperiod-of, numbered, least-told};
+ghost use Rattle.feasibility.specs.Tables.{Limited, Sound, Hyperperiod, share, load as load-of};
 use crate::row::Row;
 use crate::rows::Rows;
 
@@ -15,6 +15,17 @@ impl Rows {
         self.count
     }
 
+    // The row under a number, from 1.
+    pub fn row(&self, number: u32) -> Option<Row>
+        ensures { λ r. ⌜ r ≡ numbered (rows-of (now (self .entry))) number ⌝ }
+    {
+        if number == 0 || number > self.count {
+            return None;
+        }
+        let rows = self.as_slice();
+        Some(rows[number as usize - 1])
+    }
+
     // The least positive number that every period divides.
     pub fn hyperperiod(&self) -> u32
         ensures value { λ r. ⌜ r ≡ hyperperiod-of (now (self .entry)) ⌝ }
@@ -23,4 +34,54 @@ impl Rows {
     {
         self.hyperperiod
     }
+
+    // The units that all rows ask for in one hyperperiod.
+    pub fn load(&self) -> u64
+        ensures { λ r. ⌜ r ≡ load-of (rows-of (now (self .entry))) (hyperperiod-of (now (self .entry))) ⌝ }
+    {
+        sum_of_shares(self.as_slice(), self.hyperperiod)
+    }
+
+    // The least period among the rows that use a store from 1 to 8.
+    pub fn least_period(&self, store: u32) -> Option<u32>
+        ensures { λ r. ⌜ r ≡ least-told (rows-of (now (self .entry))) store ⌝ }
+    {
+        if store == 0 || store > 8 {
+            return None;
+        }
+        match self.least[store as usize] {
+            0 => None,
+            period => Some(period),
+        }
+    }
+
+    pub(crate) fn as_slice(&self) -> &[Row]
+        ensures rows { λ r. ⌜ now r ≡ rows-of (now (self .entry)) ⌝ }
+        ensures sound { λ r. ⌜ Sound (now r) ⌝ }
+        ensures few { λ r. ⌜ length (now r) ≤ 32 ⌝ }
+    {
+        &self.cells[0..self.count as usize]
+    }
+}
+
+// Adds each row's share of the hyperperiod.
+fn sum_of_shares(rows: &[Row], hyperperiod: u32) -> u64
+    requires sound { ⌜ Sound (now rows) ⌝ }
+    requires few { ⌜ length (now rows) ≤ 32 ⌝ }
+    ensures { λ r. ⌜ r ≡ load-of (now (rows .entry)) hyperperiod ⌝ }
+{
+    let mut sum: u64 = 0;
+    for row in rows {
+        sum += u64::from(share_of(*row, hyperperiod));
+    }
+    sum
+}
+
+// The units that a row asks for in one hyperperiod.
+fn share_of(row: Row, hyperperiod: u32) -> u32
+    requires { ⌜ Limited row ⌝ }
+    ensures value { λ r. ⌜ r ≡ share row hyperperiod ⌝ }
+    ensures bound { λ r. ⌜ r ≤ hyperperiod ⌝ }
+{
+    row.cost * (hyperperiod / row.period)
 }

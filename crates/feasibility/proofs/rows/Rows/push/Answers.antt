@@ -1,4 +1,3 @@
-use Prim.Native.Nat.{_+_}
 use Rattle.feasibility.proofs.Pushes.{rows-after, sound-push}
 use Rattle.feasibility.proofs.rows.Rows.push.Needs as need
 use Rattle.feasibility.specs.Contents.{rows-of}
@@ -22,7 +21,7 @@ ghost-self c =
             subst (λ xs. Hyperperiod xs (c .args .hyperperiod)) (sym rows) (c .pre .whole),
             (
               c .pre .short,
-              (λ k l. c .note-period .ensures (rows-of s) (s .shortest) k l ∙ ap (λ xs. least-period xs (k + 1)) (sym rows), tt),
+              (λ r l. c .note-period .ensures (rows-of s) (s .shortest) r l ∙ ap (λ xs. least-period xs r) (sym rows), tt),
             ),
           ),
         ),
