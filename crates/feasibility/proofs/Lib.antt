@@ -1,3 +1,5 @@
+pub mod Demands
 pub mod Euclid
 pub mod Pushes
+pub mod Stores
 pub mod Totals

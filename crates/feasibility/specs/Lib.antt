@@ -4,3 +4,5 @@ pub mod Drafts
 pub mod Refusals
 pub mod Sums
 pub mod Tables
+pub mod Told
+pub mod Verdicts

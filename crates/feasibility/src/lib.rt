@@ -1,5 +1,7 @@
 // The job table and the exact verdict on it.
-pub mod divisors;
+mod divisors;
+pub mod draft;
 pub mod row;
 pub mod rows;
-pub mod draft;
+pub mod table;
+pub mod verdict;

@@ -22,5 +22,6 @@ pub struct Rows {
     ghost shortest: { (r : ℕ) → r ≤ 8 → getD least r 0 ≡ least-period (take count cells) r },
 }
 
+mod blocking;
 mod growth;
 mod questions;
