@@ -7,6 +7,7 @@ use lib.Dec.{eqb}
 use lib.ListN.{length, getD}
 use mathlib.Core.Bool.{cond}
 use mathlib.Core.List.{List, [], _∷_}
+use mathlib.Core.Logic.{_≢_}
 use mathlib.Core.Path.{_≡_}
 
 -- What stands past the end of a table, as the code reads it.
@@ -48,3 +49,15 @@ lower p q = cond (eqb p 0) q (cond (eqb q 0) p (min p q))
 abbrev pub least-period : List Row → ℕ → ℕ
 least-period [] r = 0
 least-period (x ∷ xs) r = lower (cond (eqb (x .store) r) (x .period) 0) (least-period xs r)
+
+-- p is the least period among the users of the store r: that of one of them, and at most that of each.
+pub record Least (rows : List Row) (r p : ℕ) : Type 0 where
+  pub user : ℕ
+  pub within : user < length rows
+  pub uses : row rows user .store ≡ r
+  pub own : row rows user .period ≡ p
+  pub least : (j : ℕ) → j < length rows → row rows j .store ≡ r → p ≤ row rows j .period
+
+-- No row uses the store r. (Store 0 is none, whatever rows name it.)
+abbrev pub Unused : List Row → ℕ → Type 0
+Unused rows r = r ≢ 0 → (j : ℕ) → j < length rows → row rows j .store ≢ r

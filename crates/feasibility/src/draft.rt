@@ -10,6 +10,8 @@ ghost use Rattle.feasibility.specs.Tables.{Limited};
 use crate::row::Row;
 use crate::row::RowRefusal;
 use crate::rows::Rows;
+use crate::table::Table;
+use std::ops::Deref;
 
 #[derive(Drop)]
 pub struct Draft {
@@ -35,6 +37,25 @@ impl Draft {
         let hyperperiod = self.rows.hyperperiod_with(row)?;
         self.rows.push(row, hyperperiod);
         Ok(())
+    }
+
+    // Uses the draft up: its rows are a table, which takes no more.
+    pub fn seal(self) -> Table
+        ensures { λ r. ⌜ r .rows ≡ self .rows ⌝ }
+    {
+        let Draft { rows } = self;
+        Table::of(rows)
+    }
+}
+
+// A draft answers what its rows do.
+pub impl Deref for Draft as DraftRows {
+    type Target = Rows;
+
+    ghost leads = { λ d rows. rows ≡ d .rows };
+
+    fn deref(&self) -> &Rows {
+        &self.rows
     }
 }
 

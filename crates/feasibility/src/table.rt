@@ -13,6 +13,7 @@ pub struct Table {
 }
 
 impl Table {
+    // The table of a draft's rows.
     pub(crate) fn of(rows: Rows) -> Table
         ensures { λ r. ⌜ r .rows ≡ rows ⌝ }
     {

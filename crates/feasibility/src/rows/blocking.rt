@@ -5,7 +5,7 @@ ghost use lib.ListN.{length};
 ghost use Rattle.std.specs.Options.{Cases as BySome};
 ghost use Rattle.feasibility.specs.Contents.{rows-of};
 ghost use Rattle.feasibility.specs.Sums.{Σ<};
-ghost use Rattle.feasibility.specs.Tables.{row as row-at, Limited, Sound, least-period};
+ghost use Rattle.feasibility.specs.Tables.{row as row-at, Limited, Sound};
 ghost use Rattle.feasibility.specs.Verdicts.{demand, needed, Unblocked, First-failing};
 use crate::row::Row;
 use crate::rows::Rows;
@@ -20,7 +20,7 @@ impl Rows {
         'search: for i in 0..rows.len() {
             let row = rows[i];
             if row.store != 0 {
-                for length in self.first_length(row)..row.period {
+                for length in self.kept_period(row.store) + 1..row.period {
                     if length < units_needed(rows, i, length) {
                         found = Some((i, length));
                         break 'search;
@@ -29,14 +29,6 @@ impl Rows {
             }
         }
         found
-    }
-
-    // The lowest length at which a row is tried.
-    fn first_length(&self, row: Row) -> u32
-        requires { ⌜ Limited row ⌝ }
-        ensures { λ r. ⌜ r ≡ least-period (rows-of (now (self .entry))) (row .store) + 1 ⌝ }
-    {
-        self.least[row.store as usize] + 1
     }
 }
 

@@ -1,9 +1,10 @@
 // What can be asked of a table, draft or sealed.
 ghost use mathlib.Core.Path.{_≡_};
-ghost use Prim.Native.Nat.{_≤_};
+ghost use Prim.Native.Nat.{_<_, _≤_};
 ghost use lib.ListN.{length};
+ghost use Rattle.std.specs.Options.{Cases};
 ghost use Rattle.feasibility.specs.Contents.{rows-of, hyperperiod-of, numbered, least-told};
-ghost use Rattle.feasibility.specs.Tables.{Limited, Sound, Hyperperiod, share, load as load-of};
+ghost use Rattle.feasibility.specs.Tables.{Limited, Sound, Hyperperiod, share, least-period, Least, Unused, load as load-of};
 use crate::row::Row;
 use crate::rows::Rows;
 
@@ -44,15 +45,27 @@ impl Rows {
 
     // The least period among the rows that use a store from 1 to 8.
     pub fn least_period(&self, store: u32) -> Option<u32>
-        ensures { λ r. ⌜ r ≡ least-told (rows-of (now (self .entry))) store ⌝ }
+        ensures value { λ r. ⌜ r ≡ least-told (rows-of (now (self .entry))) store ⌝ }
+        ensures law { λ r. ⌜ Cases r (Unused (rows-of (now (self .entry))) store) (λ p. Least (rows-of (now (self .entry))) store p) ⌝ }
     {
         if store == 0 || store > 8 {
             return None;
         }
-        match self.least[store as usize] {
+        match self.kept_period(store) {
             0 => None,
             period => Some(period),
         }
+    }
+
+    // The least period that is kept for a store, 0 if no row uses it.
+    pub(crate) fn kept_period(&self, store: u32) -> u32
+        requires { ⌜ store ≤ 8 ⌝ }
+        ensures value { λ r. ⌜ r ≡ least-period (rows-of (now (self .entry))) store ⌝ }
+        ensures bound { λ r. ⌜ r ≤ 65535 ⌝ }
+        ensures none { λ r. ⌜ (r ≡ 0 → Unused (rows-of (now (self .entry))) store) ⌝ }
+        ensures some { λ r. ⌜ (0 < r → Least (rows-of (now (self .entry))) store r) ⌝ }
+    {
+        self.least[store as usize]
     }
 
     pub(crate) fn as_slice(&self) -> &[Row]
