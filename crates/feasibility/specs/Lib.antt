@@ -1,6 +1,8 @@
+pub mod Cases
 pub mod Contents
 pub mod Divisors
 pub mod Drafts
+pub mod Laws
 pub mod Refusals
 pub mod Sums
 pub mod Tables

@@ -1,0 +1,15 @@
+// Theorems about the definitions alone. A call does nothing; what it ensures is the theorem.
+ghost use Rattle.feasibility.specs.Cases.{Cases-stand};
+ghost use Rattle.feasibility.specs.Laws.{One-verdict};
+
+// Of any rows exactly one of the three verdicts is right.
+pub fn exactly_one_verdict()
+    ensures { λ _. ⌜ One-verdict ⌝ }
+{
+}
+
+// The tables A to I have the hyperperiods, loads and verdicts that are worked out by hand.
+pub fn cases_stand()
+    ensures { λ _. ⌜ Cases-stand ⌝ }
+{
+}
