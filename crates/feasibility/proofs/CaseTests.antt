@@ -145,7 +145,7 @@ module _ (rows : List Row) where
       record {
         light = leb-true (load rows h) h (both .0);
         unblocked = λ i l tried.
-          row-shows i (all<-at (length rows) (row-passes rows) .0 (both .1) i (tried .within)) l tried;
+            row-shows i (all<-at (length rows) (row-passes rows) .0 (both .1) i (tried .within)) l tried;
       }
   right-shows h (Overloaded x y) e =
       let one = and-parts (ltb h (load rows h)) (eqb x h && eqb y (load rows h)) e in

@@ -72,7 +72,7 @@ hyperperiod-push xs x h n whole lcm = (
   lcm .positive,
   each-place xs x (λ y. n % y .period ≡ 0) old (lcm .second),
   λ m pos common.
-    lcm .least m pos (hyperperiod-divides xs h m whole (common-before xs x m common)) (common-last xs x m common),
+      lcm .least m pos (hyperperiod-divides xs h m whole (common-before xs x m common)) (common-last xs x m common),
 )
   where
     old : (j : ℕ) → j < length xs → n % row xs j .period ≡ 0

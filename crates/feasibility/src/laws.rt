@@ -5,11 +5,9 @@ ghost use Rattle.feasibility.specs.Laws.{One-verdict};
 // Of any rows exactly one of the three verdicts is right.
 pub fn exactly_one_verdict()
     ensures { λ _. ⌜ One-verdict ⌝ }
-{
-}
+{}
 
 // The tables A to I have the hyperperiods, loads and verdicts that are worked out by hand.
 pub fn cases_stand()
     ensures { λ _. ⌜ Cases-stand ⌝ }
-{
-}
+{}

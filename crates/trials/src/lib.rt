@@ -1,0 +1,3 @@
+// Tests of the crates, as their users call them.
+#[cfg(test)]
+mod tables;
