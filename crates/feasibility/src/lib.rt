@@ -1,8 +1,17 @@
 // The job table and the exact verdict on it.
 mod divisors;
-pub mod draft;
+mod draft;
 pub mod laws;
-pub mod row;
-pub mod rows;
-pub mod table;
-pub mod verdict;
+mod row;
+mod rows;
+mod table;
+mod verdict;
+
+pub use draft::Draft;
+pub use draft::DraftRows;
+pub use row::Row;
+pub use row::RowRefusal;
+pub use rows::Rows;
+pub use table::Table;
+pub use table::TableRows;
+pub use verdict::Verdict;

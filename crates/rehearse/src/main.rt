@@ -2,11 +2,11 @@
 mod cases;
 
 use cases::CASES;
-use feasibility::draft::Draft;
-use feasibility::row::Row;
-use feasibility::row::RowRefusal;
-use feasibility::table::Table;
-use feasibility::verdict::Verdict;
+use feasibility::Draft;
+use feasibility::Row;
+use feasibility::RowRefusal;
+use feasibility::Table;
+use feasibility::Verdict;
 use std::io;
 
 fn main(rt: LibcRuntime) -> io::Result<()> {

@@ -1,11 +1,10 @@
 // The job table, its limits and its verdict.
-use feasibility::draft::Draft;
-use feasibility::draft::DraftRows;
-use feasibility::row::Row;
-use feasibility::row::RowRefusal;
-use feasibility::table::Table;
-use feasibility::table::TableRows;
-use feasibility::verdict::Verdict;
+use feasibility::Draft;
+use feasibility::DraftRows;
+use feasibility::Row;
+use feasibility::Table;
+use feasibility::TableRows;
+use feasibility::Verdict;
 use std::test::*;
 
 fn row(cost: u32, period: u32, store: u32) -> Row {
@@ -19,7 +18,7 @@ fn row(cost: u32, period: u32, store: u32) -> Row {
 fn sealed(rows: &[(u32, u32, u32)]) -> Result<Table, Fail> {
     let mut draft = Draft::new();
     for (cost, period, store) in rows {
-        if let Err(refusal) = draft.add(row(*cost, *period, *store)) {
+        if let Err(_) = draft.add(row(*cost, *period, *store)) {
             return Err(Fail::new("a row is refused"));
         }
     }
