@@ -1,7 +1,9 @@
 pub mod CaseTests
+pub mod Counting
 pub mod Demands
 pub mod Euclid
 pub mod OneVerdict
 pub mod Pushes
+pub mod Refused
 pub mod Stores
 pub mod Totals

@@ -2,8 +2,10 @@ pub mod Cases
 pub mod Contents
 pub mod Divisors
 pub mod Drafts
+pub mod Hopeless
 pub mod Laws
 pub mod Refusals
+pub mod Schedules
 pub mod Sums
 pub mod Tables
 pub mod Told
