@@ -32,6 +32,7 @@ use Rattle.feasibility.specs.Sums.{Σ<, Σ<-but}
 use Rattle.feasibility.specs.Tables.{row, Sound, load, share, least-period, Least}
 use Rattle.feasibility.specs.Verdicts.{demand, needed, Tried}
 use Rattle.feasibility.specs.declared.row.Row.{Row}
+use Rattle.feasibility.specs.declared.verdict.Verdict.the-variants.{Fit, Overloaded, Blocked}
 use Rattle.std.proofs.shelf.Tests.{both-ways, cases-eq, cases-lt, cond-false, cond-true, eq-eqb, eqb-true, ne-eqb}
 use Rattle.std.specs.declared.option.Option.{Option}
 use Rattle.std.specs.declared.option.Option.the-variants.{Some, None}
@@ -394,3 +395,10 @@ blocking-is-hopeless rows i l sound tried fails = record {
   lawful = one-before-lawful rows i;
   late = λ s serves busy unshared. late rows sound i l tried fails s serves busy unshared;
 }
+
+pub refusals-are-deserved : Refusals-are-deserved
+refusals-are-deserved rows h Fit sound right = tt
+refusals-are-deserved rows h (Overloaded x y) sound right =
+    subst (Overload-is-hopeless rows) (sym (right .whole)) (overload-is-hopeless rows h sound (right .heavy))
+refusals-are-deserved rows h (Blocked n l) sound right =
+    blocking-is-hopeless rows (n - 1) l sound (right .first .tried) (right .first .fails)

@@ -2,9 +2,10 @@
 use Prim.Native.Nat.{ℕ, _-_, _%_}
 use Rattle.feasibility.specs.Schedules.{Requests, Schedule, Lawful, Serves, Busy, Unshared, Late-by}
 use Rattle.feasibility.specs.Tables.{row, Sound}
-use Rattle.feasibility.specs.Told.{Told}
+use Rattle.feasibility.specs.Told.{Told, told}
 use Rattle.feasibility.specs.Verdicts.{Judged}
 use Rattle.feasibility.specs.declared.row.Row.{Row}
+use Rattle.feasibility.specs.declared.verdict.Verdict.{Verdict}
 use Rattle.std.specs.Orderings.{When}
 use lib.Dec.{eqb}
 use mathlib.Core.Bool.{true, false, cond}
@@ -37,4 +38,5 @@ Deserved rows t =
     (When (eqb (t .number) 7) (Blocking-is-hopeless rows (t .first - 1) (t .second)) (Unit {0}))
 
 abbrev pub Refusals-are-deserved : Type 0
-Refusals-are-deserved = (rows : List Row) (h : ℕ) (t : Told) → Sound rows → Judged rows h t → Deserved rows t
+Refusals-are-deserved =
+    (rows : List Row) (h : ℕ) (v : Verdict) → Sound rows → Judged rows h (told v) → Deserved rows (told v)

@@ -1,5 +1,6 @@
 // Theorems about the definitions alone. A call does nothing; what it ensures is the theorem.
 ghost use Rattle.feasibility.specs.Cases.{Cases-stand};
+ghost use Rattle.feasibility.specs.Hopeless.{Refusals-are-deserved};
 ghost use Rattle.feasibility.specs.Laws.{One-verdict};
 
 // Of any rows exactly one of the three verdicts is right.
@@ -10,4 +11,10 @@ pub fn exactly_one_verdict()
 // The tables A to I have the hyperperiods, loads and verdicts that are worked out by hand.
 pub fn cases_stand()
     ensures { λ _. ⌜ Cases-stand ⌝ }
+{}
+
+// Of a table that is told to be overloaded or blocked: under the requests that the verdict names, which are lawful,
+// every schedule is late (if blocked, every busy one that shares no store).
+pub fn refusals_are_deserved()
+    ensures { λ _. ⌜ Refusals-are-deserved ⌝ }
 {}

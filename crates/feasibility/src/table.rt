@@ -1,6 +1,7 @@
 // A sealed table: it takes no more rows, and can be judged.
 ghost use mathlib.Core.Path.{_≡_};
 ghost use Rattle.feasibility.specs.Contents.{rows-of, hyperperiod-of};
+ghost use Rattle.feasibility.specs.Hopeless.{Deserved};
 ghost use Rattle.feasibility.specs.Told.{told};
 ghost use Rattle.feasibility.specs.Verdicts.{Judged};
 use crate::rows::Rows;
@@ -22,7 +23,8 @@ impl Table {
 
     // Whether every request that the table allows can be finished in time, and if not, why.
     pub fn judge(&self) -> Verdict
-        ensures { λ r. ⌜ Judged (rows-of (now (self .entry) .rows)) (hyperperiod-of (now (self .entry) .rows)) (told r) ⌝ }
+        ensures judged { λ r. ⌜ Judged (rows-of (now (self .entry) .rows)) (hyperperiod-of (now (self .entry) .rows)) (told r) ⌝ }
+        ensures deserved { λ r. ⌜ Deserved (rows-of (now (self .entry) .rows)) (told r) ⌝ }
     {
         let hyperperiod = self.rows.hyperperiod();
         let load = self.rows.load();

@@ -4,6 +4,7 @@ ghost use Prim.Native.Nat.{ℕ, _+_, _*_, _<_, _≤_};
 ghost use lib.ListN.{length};
 ghost use Rattle.std.specs.Options.{Cases as BySome};
 ghost use Rattle.feasibility.specs.Contents.{rows-of};
+ghost use Rattle.feasibility.specs.Hopeless.{Blocking-is-hopeless};
 ghost use Rattle.feasibility.specs.Sums.{Σ<};
 ghost use Rattle.feasibility.specs.Tables.{row as row-at, Limited, Sound};
 ghost use Rattle.feasibility.specs.Verdicts.{demand, needed, Unblocked, First-failing};
@@ -11,8 +12,16 @@ use crate::row::Row;
 use crate::rows::Rows;
 
 impl Rows {
-    // The place of the first row that fails, with its first failing length.
+    // The place of the first row that fails, with its first failing length; what such a find is worth.
     pub(crate) fn first_failing(&self) -> Option<(usize, u32)>
+        ensures found { λ r. ⌜ BySome r (Unblocked (rows-of (now (self .entry)))) (λ b. First-failing (rows-of (now (self .entry))) (b .0) (b .1)) ⌝ }
+        ensures worth { λ r. ⌜ BySome r (Unit {0}) (λ b. Blocking-is-hopeless (rows-of (now (self .entry))) (b .0) (b .1)) ⌝ }
+    {
+        self.search()
+    }
+
+    // The search, row by row and length by length.
+    fn search(&self) -> Option<(usize, u32)>
         ensures { λ r. ⌜ BySome r (Unblocked (rows-of (now (self .entry)))) (λ b. First-failing (rows-of (now (self .entry))) (b .0) (b .1)) ⌝ }
     {
         let rows = self.as_slice();

@@ -4,6 +4,7 @@ ghost use Prim.Native.Nat.{_<_, _≤_};
 ghost use lib.ListN.{length};
 ghost use Rattle.std.specs.Options.{Cases};
 ghost use Rattle.feasibility.specs.Contents.{rows-of, hyperperiod-of, numbered, least-told};
+ghost use Rattle.feasibility.specs.Hopeless.{Overload-is-hopeless};
 ghost use Rattle.feasibility.specs.Tables.{Limited, Sound, Hyperperiod, share, least-period, Least, Unused, load as load-of};
 use crate::row::Row;
 use crate::rows::Rows;
@@ -38,7 +39,8 @@ impl Rows {
 
     // The units that all rows ask for in one hyperperiod.
     pub fn load(&self) -> u64
-        ensures { λ r. ⌜ r ≡ load-of (rows-of (now (self .entry))) (hyperperiod-of (now (self .entry))) ⌝ }
+        ensures value { λ r. ⌜ r ≡ load-of (rows-of (now (self .entry))) (hyperperiod-of (now (self .entry))) ⌝ }
+        ensures worth { λ r. ⌜ (hyperperiod-of (now (self .entry)) < r → Overload-is-hopeless (rows-of (now (self .entry))) (hyperperiod-of (now (self .entry)))) ⌝ }
     {
         sum_of_shares(self.as_slice(), self.hyperperiod)
     }
@@ -81,7 +83,8 @@ impl Rows {
 fn sum_of_shares(rows: &[Row], hyperperiod: u32) -> u64
     requires sound { ⌜ Sound (now rows) ⌝ }
     requires few { ⌜ length (now rows) ≤ 32 ⌝ }
-    ensures { λ r. ⌜ r ≡ load-of (now (rows .entry)) hyperperiod ⌝ }
+    ensures value { λ r. ⌜ r ≡ load-of (now (rows .entry)) hyperperiod ⌝ }
+    ensures worth { λ r. ⌜ (hyperperiod < r → Overload-is-hopeless (now (rows .entry)) hyperperiod) ⌝ }
 {
     let mut sum: u64 = 0;
     for row in rows {

@@ -1,5 +1,5 @@
 use Prim.Native.Nat.{ℕ, _≤_, _<_}
-use Rattle.feasibility.proofs.rows.Rows.first_failing.Given as given
+use Rattle.feasibility.proofs.rows.Rows.search.Given as given
 use Rattle.feasibility.specs.Verdicts.{Tried, needed}
 use Rattle.std.specs.declared.option.Option.the-variants.{None}
 use mathlib.Core.Path.{_≡_}
