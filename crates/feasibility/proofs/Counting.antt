@@ -3,7 +3,7 @@ use Prim.Native.Nat.{ℕ, zero, suc, _+_, _*_, _-_, _≤_, _<_}
 use Rattle.feasibility.proofs.Totals.{sum-add, sum-const, sum-le, sum-same, sum-zero}
 use Rattle.feasibility.specs.Schedules.{Job, Schedule, unit, units, Finished}
 use Rattle.feasibility.specs.Sums.{Σ<}
-use Rattle.feasibility.specs.Tables.{row}
+use Rattle.feasibility.specs.Tables.{row-at}
 use Rattle.feasibility.specs.declared.row.Row.{Row}
 use Rattle.std.proofs.shelf.Tests.{cases-bool, cases-eq, cond-false, cond-true, eq-eqb, ne-eqb}
 use Rattle.std.specs.declared.option.Option.{Option}
@@ -100,31 +100,31 @@ module _ (n : ℕ) (m : ℕ → ℕ) (g : ℕ → ℕ → ℕ) (up : (j : ℕ) �
 
 -- m j jobs of each row j, requested at b j and at each period after it, all finished at l: their costs fit into l ticks
 pub finished-fit :
-    (rows : List Row) (s : Schedule) (m b : ℕ → ℕ) (l : ℕ) → ((j : ℕ) → j < length rows → 0 < row rows j .period) →
-    ((j k : ℕ) → j < length rows → k < m j → Finished rows s (job j (b j + k * row rows j .period)) l) →
-    Σ< (length rows) (λ j. m j * row rows j .cost) ≤ l
+    (rows : List Row) (s : Schedule) (m b : ℕ → ℕ) (l : ℕ) → ((j : ℕ) → j < length rows → 0 < row-at rows j .period) →
+    ((j k : ℕ) → j < length rows → k < m j → Finished rows s (job j (b j + k * row-at rows j .period)) l) →
+    Σ< (length rows) (λ j. m j * row-at rows j .cost) ≤ l
 finished-fit rows s m b l positive done =
     omega (
       arith,
       units-fit n m g rise s l,
-      sum-le n (λ j. m j * row rows j .cost) (λ j. Σ< (m j) (λ k. units s (job j (g j k)) l)) each,
+      sum-le n (λ j. m j * row-at rows j .cost) (λ j. Σ< (m j) (λ k. units s (job j (g j k)) l)) each,
     )
   where
     n : ℕ
     n = length rows
 
     g : ℕ → ℕ → ℕ
-    g j k = b j + k * row rows j .period
+    g j k = b j + k * row-at rows j .period
 
     rise : (j : ℕ) → j < n → (k l : ℕ) → k < l → g j k < g j l
     rise j lj k l lt = omega (arith, mul-lt-mul-of-pos-right lt (positive j lj))
 
-    each : (j : ℕ) → j < n → m j * row rows j .cost ≤ Σ< (m j) (λ k. units s (job j (g j k)) l)
+    each : (j : ℕ) → j < n → m j * row-at rows j .cost ≤ Σ< (m j) (λ k. units s (job j (g j k)) l)
     each j lj =
         omega (
           arith,
-          sum-const (m j) (row rows j .cost),
-          sum-le (m j) (λ _. row rows j .cost) (λ k. units s (job j (g j k)) l) (λ k lk. done j k lj lk),
+          sum-const (m j) (row-at rows j .cost),
+          sum-le (m j) (λ _. row-at rows j .cost) (λ k. units s (job j (g j k)) l) (λ k lk. done j k lj lk),
         )
 
 -- units are never taken back

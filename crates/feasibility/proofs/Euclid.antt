@@ -1,6 +1,6 @@
 -- Euclid's step, and the least common multiple that it gives.
 use Prim.Native.Nat.{ℕ, _+_, _*_, _/_, _%_, _≤_, _<_}
-use Rattle.feasibility.specs.Divisors.{Cancels, Common-divisor, Least-common}
+use Rattle.feasibility.specs.Divisors.{Cancels, Greatest-common-divisor, Least-common-multiple}
 use Rattle.std.proofs.shelf.Tests.{cases-eq}
 use mathlib.Core.Logic.{_⊎_, inl, inr}
 use mathlib.Core.Path.{_≡_, refl, sym, ap, _∙_}
@@ -53,7 +53,7 @@ cancels-more a b r g is pos below s e =
     divided b u (g * s) (same r (g * s) (b * u) pos (omega arith))
 
 -- a over the greatest common divisor, times b, is the least common multiple
-pub least-common : (a b g : ℕ) → 0 < a → 0 < b → Common-divisor a b g → Least-common a b (a / g * b)
+pub least-common : (a b g : ℕ) → 0 < a → 0 < b → Greatest-common-divisor a b g → Least-common-multiple a b (a / g * b)
 least-common a b g a-pos b-pos gcd = record {
   positive = mul-pos over (b-pos);
   first = divided a (b / g) n (omega (arith, ap (λ x. a / g * x) b-is, ap (λ x. x * (b / g)) a-is));

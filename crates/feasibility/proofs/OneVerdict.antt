@@ -1,7 +1,7 @@
 -- Exactly one verdict is right of a table: one is found by a bounded search, and no other can be.
 use Prim.Native.Nat.{ℕ, zero, suc, _+_, _-_, _≤_, _<_}
 use Rattle.feasibility.specs.Laws.{One-verdict}
-use Rattle.feasibility.specs.Tables.{row, load, least-period}
+use Rattle.feasibility.specs.Tables.{row-at, load-of, least-period}
 use Rattle.feasibility.specs.Told.{told}
 use Rattle.feasibility.specs.Verdicts.{
   needed,
@@ -55,14 +55,14 @@ module _ (rows : List Row) where
   Passes i l = Tried rows i l → needed rows i l ≤ l
 
   -- one length of a row
-  at-length : (i : ℕ) → i < length rows → (l : ℕ) → l < row rows i .period → Fails i l ⊎ Passes i l
+  at-length : (i : ℕ) → i < length rows → (l : ℕ) → l < row-at rows i .period → Fails i l ⊎ Passes i l
   unfolding Fails Passes
   at-length i li l ll =
-      pick (cases-eq (row rows i .store) 0) (cases-lt (least-period rows (row rows i .store)) l)
+      pick (cases-eq (row-at rows i .store) 0) (cases-lt (least-period rows (row-at rows i .store)) l)
       (cases-lt l (needed rows i l))
     where
       r : ℕ
-      r = row rows i .store
+      r = row-at rows i .store
 
       pick :
           (r ≡ 0) ⊎ (r ≡ 0 → ⊥) → (least-period rows r < l) ⊎ (l ≤ least-period rows r) →
@@ -82,21 +82,21 @@ module _ (rows : List Row) where
 
   at-row : (i : ℕ) → i < length rows → Row-fails i ⊎ Row-passes i
   unfolding Row-fails Row-passes Passes
-  at-row i li = join (first-place (row rows i .period) (Fails i) (Passes i) (at-length i li))
+  at-row i li = join (first-place (row-at rows i .period) (Fails i) (Passes i) (at-length i li))
     where
       join :
-          ((l : ℕ) × (l < row rows i .period) × Fails i l × ((m : ℕ) → m < l → Passes i m)) ⊎
-          ((l : ℕ) → l < row rows i .period → Passes i l) →
+          ((l : ℕ) × (l < row-at rows i .period) × Fails i l × ((m : ℕ) → m < l → Passes i m)) ⊎
+          ((l : ℕ) → l < row-at rows i .period → Passes i l) →
           Row-fails i ⊎ Row-passes i
       join (inl x) = inl (x .0, x .2, x .3)
       join (inr all) = inr (λ l tried. all l (tried .below) tried)
 
   pub found : (h : ℕ) → (v : Verdict) × Judged rows h (told v)
   unfolding Row-fails Row-passes Fails Passes
-  found h = by-load (cases-lt h (load rows h))
+  found h = by-load (cases-lt h (load-of rows h))
     where
       by-rows :
-          load rows h ≤ h →
+          load-of rows h ≤ h →
           ((i : ℕ) × (i < length rows) × Row-fails i × ((k : ℕ) → k < i → Row-passes k)) ⊎
           ((i : ℕ) → i < length rows → Row-passes i) →
           (v : Verdict) × Judged rows h (told v)
@@ -111,16 +111,16 @@ module _ (rows : List Row) where
           } in (
             Blocked (x .0 + 1) (fails .0),
             record {
-              light = light;
+              load-fits = light;
               numbered = omega arith;
               first = subst (λ i. First-failing rows i (fails .0)) (sym (add-sub-cancel (x .0) 1)) first;
             },
           )
       by-rows light (inr all) =
-          (Fit, record { light = light; unblocked = λ i l tried. all i (tried .within) l tried })
+          (Fit, record { load-fits = light; unblocked = λ i l tried. all i (tried .within) l tried; no-values = (refl, refl) })
 
-      by-load : (h < load rows h) ⊎ (load rows h ≤ h) → (v : Verdict) × Judged rows h (told v)
-      by-load (inl heavy) = (Overloaded h (load rows h), record { heavy = heavy; whole = refl; asked = refl })
+      by-load : (h < load-of rows h) ⊎ (load-of rows h ≤ h) → (v : Verdict) × Judged rows h (told v)
+      by-load (inl heavy) = (Overloaded h (load-of rows h), record { load-exceeds = heavy; first-is = refl; second-is = refl })
       by-load (inr light) = by-rows light (first-place (length rows) Row-fails Row-passes at-row)
 
   -- the first failing row and length are unique
@@ -146,14 +146,14 @@ module _ (rows : List Row) where
 
   pub only : (h : ℕ) (v w : Verdict) → Judged rows h (told v) → Judged rows h (told w) → w ≡ v
   only h Fit Fit a b = refl
-  only h Fit (Overloaded x y) a b = absurd (never (a .light) (b .heavy))
+  only h Fit (Overloaded x y) a b = absurd (never (a .load-fits) (b .load-exceeds))
   only h Fit (Blocked n l) a b = absurd (never (a .unblocked (n - 1) l (b .first .tried)) (b .first .fails))
-  only h (Overloaded x y) Fit a b = absurd (never (b .light) (a .heavy))
+  only h (Overloaded x y) Fit a b = absurd (never (b .load-fits) (a .load-exceeds))
   only h (Overloaded x y) (Overloaded x′ y′) a b =
-      ap₂ Overloaded (b .whole ∙ sym (a .whole)) (b .asked ∙ sym (a .asked))
-  only h (Overloaded x y) (Blocked n l) a b = absurd (never (b .light) (a .heavy))
+      ap₂ Overloaded (b .first-is ∙ sym (a .first-is)) (b .second-is ∙ sym (a .second-is))
+  only h (Overloaded x y) (Blocked n l) a b = absurd (never (b .load-fits) (a .load-exceeds))
   only h (Blocked n l) Fit a b = absurd (never (b .unblocked (n - 1) l (a .first .tried)) (a .first .fails))
-  only h (Blocked n l) (Overloaded x y) a b = absurd (never (a .light) (b .heavy))
+  only h (Blocked n l) (Overloaded x y) a b = absurd (never (a .load-fits) (b .load-exceeds))
   only h (Blocked n l) (Blocked n′ l′) a b =
       let same = same-first (n′ - 1) (n - 1) l′ l (b .first) (a .first) in
       let number : n′ ≡ n = omega (arith, same .0, a .numbered, b .numbered) in

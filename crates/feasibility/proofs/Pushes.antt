@@ -1,7 +1,7 @@
 -- One row more at the end of a table.
 use Prim.Native.Nat.{ℕ, _+_, _%_, _≤_, _<_, min}
-use Rattle.feasibility.specs.Divisors.{Least-common}
-use Rattle.feasibility.specs.Tables.{row, blank, Limited, Sound, Common, Hyperperiod, lower, least-period}
+use Rattle.feasibility.specs.Divisors.{Least-common-multiple}
+use Rattle.feasibility.specs.Tables.{row-at, blank, Limited, Sound, Common, Hyperperiod, lower, least-period}
 use Rattle.feasibility.specs.declared.row.Row.{Row}
 use Rattle.std.proofs.shelf.Lists.{getD-append-left, getD-push, getD-set-same, getD-set-other, length-push, take-more-set}
 use Rattle.std.proofs.shelf.Tests.{cases-eq, cond-true, cond-false, eq-eqb, ne-eqb}
@@ -17,19 +17,19 @@ use native.Mathlib.Omega.{arith}
 
 -- the places of a table with one row more: those that it had, and the last
 module _ (xs : List Row) (x : Row) where
-  pub row-before : (j : ℕ) → j < length xs → row (xs ++ x ∷ []) j ≡ row xs j
+  pub row-before : (j : ℕ) → j < length xs → row-at (xs ++ x ∷ []) j ≡ row-at xs j
   row-before j l = getD-append-left xs (x ∷ []) blank j l
 
-  pub row-last : row (xs ++ x ∷ []) (length xs) ≡ x
+  pub row-last : row-at (xs ++ x ∷ []) (length xs) ≡ x
   row-last = getD-push xs x blank (length xs) refl
 
   pub each-place :
-      (P : Row → Type 0) → ((j : ℕ) → j < length xs → P (row xs j)) → P x →
-      (j : ℕ) → j < length (xs ++ x ∷ []) → P (row (xs ++ x ∷ []) j)
+      (P : Row → Type 0) → ((j : ℕ) → j < length xs → P (row-at xs j)) → P x →
+      (j : ℕ) → j < length (xs ++ x ∷ []) → P (row-at (xs ++ x ∷ []) j)
   each-place P old new j l = at (cases-eq j (length xs))
     where
-      at : (j ≡ length xs) ⊎ (j ≡ length xs → ⊥) → P (row (xs ++ x ∷ []) j)
-      at (inl e) = subst (λ n. P (row (xs ++ x ∷ []) n)) (sym e) (subst P (sym row-last) new)
+      at : (j ≡ length xs) ⊎ (j ≡ length xs → ⊥) → P (row-at (xs ++ x ∷ []) j)
+      at (inl e) = subst (λ n. P (row-at (xs ++ x ∷ []) n)) (sym e) (subst P (sym row-last) new)
       at (inr ne) =
           let in-front : j < length xs = omega (arith, length-push xs x) in
           subst P (sym (row-before j in-front)) (old j in-front)
@@ -57,16 +57,16 @@ hyperperiod-divides xs h m whole common = at (cases-eq (m % h) 0)
   where
     rest : Common xs (m % h)
     rest j l =
-        mod-eq-zero-of-dvd (row xs j .period)
-        (dvd-mod-iff (row xs j .period) (dvd-of-mod-eq-zero (row xs j .period) (whole .1 j l)) .1
-        (dvd-of-mod-eq-zero (row xs j .period) (common j l)))
+        mod-eq-zero-of-dvd (row-at xs j .period)
+        (dvd-mod-iff (row-at xs j .period) (dvd-of-mod-eq-zero (row-at xs j .period) (whole .1 j l)) .1
+        (dvd-of-mod-eq-zero (row-at xs j .period) (common j l)))
 
     at : (m % h ≡ 0) ⊎ (m % h ≡ 0 → ⊥) → m % h ≡ 0
     at (inl z) = z
     at (inr nz) = omega (arith, whole .2 (m % h) (omega arith) rest, mod-lt m (whole .0))
 
 pub hyperperiod-push :
-    (xs : List Row) (x : Row) (h n : ℕ) → Hyperperiod xs h → Least-common h (x .period) n →
+    (xs : List Row) (x : Row) (h n : ℕ) → Hyperperiod xs h → Least-common-multiple h (x .period) n →
     Hyperperiod (xs ++ x ∷ []) n
 hyperperiod-push xs x h n whole lcm = (
   lcm .positive,
@@ -75,9 +75,9 @@ hyperperiod-push xs x h n whole lcm = (
       lcm .least m pos (hyperperiod-divides xs h m whole (common-before xs x m common)) (common-last xs x m common),
 )
   where
-    old : (j : ℕ) → j < length xs → n % row xs j .period ≡ 0
+    old : (j : ℕ) → j < length xs → n % row-at xs j .period ≡ 0
     old j l =
-        let p : ℕ = row xs j .period in
+        let p : ℕ = row-at xs j .period in
         mod-eq-zero-of-dvd p (dvd-trans p (dvd-of-mod-eq-zero p (whole .1 j l)) (dvd-of-mod-eq-zero h (lcm .first)))
 
 lower-assoc : (p q r : ℕ) → lower p (lower q r) ≡ lower (lower p q) r

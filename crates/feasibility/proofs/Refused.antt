@@ -29,7 +29,7 @@ use Rattle.feasibility.specs.Schedules.{
   Late-by,
 }
 use Rattle.feasibility.specs.Sums.{Σ<, Σ<-but}
-use Rattle.feasibility.specs.Tables.{row, Sound, load, share, least-period, Least}
+use Rattle.feasibility.specs.Tables.{row-at, Sound, load-of, share, least-period, Least}
 use Rattle.feasibility.specs.Verdicts.{demand, needed, Tried}
 use Rattle.feasibility.specs.declared.row.Row.{Row}
 use Rattle.feasibility.specs.declared.verdict.Verdict.the-variants.{Fit, Overloaded, Blocked}
@@ -48,17 +48,17 @@ use native.Mathlib.Omega.{arith}
 -- a schedule is late by l, or all jobs of a row are finished at their due times, that are requested at b and at each
 -- period after it, as many as are due within t ticks
 module _ (rows : List Row) (sound : Sound rows) (asks : Requests) (s : Schedule) (l : ℕ) where
-  positive : (j : ℕ) → j < length rows → 0 < row rows j .period
+  positive : (j : ℕ) → j < length rows → 0 < row-at rows j .period
   positive j lj = omega (arith, sound j lj)
 
   nth : ℕ → ℕ → ℕ → Job
-  nth j b k = job j (b + k * row rows j .period)
+  nth j b k = job j (b + k * row-at rows j .period)
 
   In-time : ℕ → ℕ → ℕ → Type 0
-  In-time j b t = (k : ℕ) → k < jobs (row rows j) t → Finished rows s (nth j b k) l
+  In-time j b t = (k : ℕ) → k < jobs (row-at rows j) t → Finished rows s (nth j b k) l
 
   row-in-time :
-      (j b t : ℕ) → j < length rows → ((k : ℕ) → asks j (b + k * row rows j .period) ≡ true) → b + t ≤ l →
+      (j b t : ℕ) → j < length rows → ((k : ℕ) → asks j (b + k * row-at rows j .period) ≡ true) → b + t ≤ l →
       Late-by rows asks s l ⊎ In-time j b t
   unfolding nth In-time
   row-in-time j b t lj asked within =
@@ -68,7 +68,7 @@ module _ (rows : List Row) (sound : Sound rows) (asks : Requests) (s : Schedule)
       (λ k _. cases-lt (units s (nth j b k) (due rows (nth j b k))) (x .cost)))
     where
       x : Row
-      x = row rows j
+      x = row-at rows j
 
       by : (k : ℕ) → k < jobs x t → due rows (nth j b k) ≤ l
       by k lk = omega (arith, jobs-due x t k (positive j lj) lk)
@@ -98,7 +98,7 @@ multiples-apart p a b za zb lt =
     omega arith
 
 -- with all rows at once, what is due by h is the load, which is above h
-pub overload-is-hopeless : (rows : List Row) (h : ℕ) → Sound rows → h < load rows h → Overload-is-hopeless rows h
+pub overload-is-hopeless : (rows : List Row) (h : ℕ) → Sound rows → h < load-of rows h → Overload-is-hopeless rows h
 unfolding nth In-time
 overload-is-hopeless rows h sound heavy = record { lawful = lawful; late = λ s _. late s }
   where
@@ -110,7 +110,7 @@ overload-is-hopeless rows h sound heavy = record { lawful = lawful; late = λ s 
 
     lawful : Lawful rows asks
     lawful j a b l ea eb lt =
-        let p = row rows j .period in multiples-apart p a b (eqb-true (a % p) 0 ea) (eqb-true (b % p) 0 eb) lt
+        let p = row-at rows j .period in multiples-apart p a b (eqb-true (a % p) 0 ea) (eqb-true (b % p) 0 eb) lt
 
     late : (s : Schedule) → Late-by rows asks s h
     late s =
@@ -118,9 +118,9 @@ overload-is-hopeless rows h sound heavy = record { lawful = lawful; late = λ s 
         (first-place n (λ _. Late-by rows asks s h) (λ j. In-time rows sound asks s h j 0 h)
         (λ j lj. row-in-time rows sound asks s h j 0 h lj (asked j) (omega arith)))
       where
-        asked : (j k : ℕ) → asks j (0 + k * row rows j .period) ≡ true
+        asked : (j k : ℕ) → asks j (0 + k * row-at rows j .period) ≡ true
         asked j k =
-            let p = row rows j .period in
+            let p = row-at rows j .period in
             eq-eqb ((0 + k * p) % p) 0 (ap (λ a. a % p) (omega arith) ∙ mul-mod-left k p)
 
         at :
@@ -130,9 +130,9 @@ overload-is-hopeless rows h sound heavy = record { lawful = lawful; late = λ s 
         at (inl found) = found .2
         at (inr all) = absurd over
           where
-            fits : Σ< n (λ j. jobs (row rows j) h * row rows j .cost) ≤ h
+            fits : Σ< n (λ j. jobs (row-at rows j) h * row-at rows j .cost) ≤ h
             fits =
-                finished-fit rows s (λ j. jobs (row rows j) h) (λ _. 0) h (positive rows sound asks s h)
+                finished-fit rows s (λ j. jobs (row-at rows j) h) (λ _. 0) h (positive rows sound asks s h)
                 (λ j k lj lk. all j lj k lk)
 
             over : ⊥
@@ -140,8 +140,8 @@ overload-is-hopeless rows h sound heavy = record { lawful = lawful; late = λ s 
                 omega (
                   arith,
                   fits,
-                  sum-same n (λ j. share (row rows j) h) (λ j. jobs (row rows j) h * row rows j .cost)
-                      (λ j _. share-is (row rows j) h),
+                  sum-same n (λ j. share (row-at rows j) h) (λ j. jobs (row-at rows j) h * row-at rows j .cost)
+                      (λ j _. share-is (row-at rows j) h),
                 )
 
 -- the requests of row i, and of the others
@@ -153,20 +153,20 @@ module _ (rows : List Row) (i : ℕ) where
   first-is a e =
       eqb-true a 0
       (sym
-      (cond-true (eqb i i) (eqb a 0) (cond (eqb a 0) false (eqb ((a - 1) % row rows i .period) 0)) (eq-eqb i i refl)) ∙
+      (cond-true (eqb i i) (eqb a 0) (cond (eqb a 0) false (eqb ((a - 1) % row-at rows i .period) 0)) (eq-eqb i i refl)) ∙
       e)
 
   asks-else :
-      (j a : ℕ) → j ≢ i → one-before rows i j a ≡ cond (eqb a 0) false (eqb ((a - 1) % row rows j .period) 0)
+      (j a : ℕ) → j ≢ i → one-before rows i j a ≡ cond (eqb a 0) false (eqb ((a - 1) % row-at rows j .period) 0)
   asks-else j a ne =
-      cond-false (eqb j i) (eqb a 0) (cond (eqb a 0) false (eqb ((a - 1) % row rows j .period) 0)) (ne-eqb j i ne)
+      cond-false (eqb j i) (eqb a 0) (cond (eqb a 0) false (eqb ((a - 1) % row-at rows j .period) 0)) (ne-eqb j i ne)
 
   -- a request of another row is 1 past a multiple of its period
-  else-is : (j a : ℕ) → j ≢ i → one-before rows i j a ≡ true → (1 ≤ a) × ((a - 1) % row rows j .period ≡ 0)
+  else-is : (j a : ℕ) → j ≢ i → one-before rows i j a ≡ true → (1 ≤ a) × ((a - 1) % row-at rows j .period ≡ 0)
   else-is j a ne e = at (cases-eq a 0)
     where
       p : ℕ
-      p = row rows j .period
+      p = row-at rows j .period
 
       inner : cond (eqb a 0) false (eqb ((a - 1) % p) 0) ≡ true
       inner = sym (asks-else j a ne) ∙ e
@@ -181,13 +181,13 @@ module _ (rows : List Row) (i : ℕ) where
         eqb-true ((a - 1) % p) 0 (sym (cond-false (eqb a 0) false (eqb ((a - 1) % p) 0) (ne-eqb a 0 nz)) ∙ inner),
       )
 
-  else-asks : (j k : ℕ) → j ≢ i → one-before rows i j (1 + k * row rows j .period) ≡ true
+  else-asks : (j k : ℕ) → j ≢ i → one-before rows i j (1 + k * row-at rows j .period) ≡ true
   else-asks j k ne =
       asks-else j a ne ∙ cond-false (eqb a 0) false (eqb ((a - 1) % p) 0) (ne-eqb a 0 (omega arith)) ∙
       eq-eqb ((a - 1) % p) 0 (ap (λ x. x % p) less ∙ mul-mod-left k p)
     where
       p : ℕ
-      p = row rows j .period
+      p = row-at rows j .period
 
       a : ℕ
       a = 1 + k * p
@@ -198,7 +198,7 @@ module _ (rows : List Row) (i : ℕ) where
   one-before-lawful : Lawful rows (one-before rows i)
   one-before-lawful j a b lj ea eb lt = at (cases-eq j i)
     where
-      at : (j ≡ i) ⊎ (j ≡ i → ⊥) → a + row rows j .period ≤ b
+      at : (j ≡ i) ⊎ (j ≡ i → ⊥) → a + row-at rows j .period ≤ b
       at (inl e) = absurd (bad (first-is b (ap (λ x. one-before rows i x b) (sym e) ∙ eb)))
         where
           bad : b ≡ 0 → ⊥
@@ -206,14 +206,14 @@ module _ (rows : List Row) (i : ℕ) where
       at (inr ne) =
           let xa = else-is j a ne ea in
           let xb = else-is j b ne eb in
-          omega (arith, multiples-apart (row rows j .period) (a - 1) (b - 1) (xa .1) (xb .1) (omega (arith, xa .0)))
+          omega (arith, multiples-apart (row-at rows j .period) (a - 1) (b - 1) (xa .1) (xb .1) (omega (arith, xa .0)))
 
 -- with row i just before all others: it gets the first tick, so it is finished before the store's most urgent user is,
 -- and with what the others have due by l that is more than l
 module _
-  (rows : List Row) (sound : Sound rows) (i l : ℕ) (tried : Tried rows i l) (fails : l < needed rows i l)
-  (s : Schedule) (serves : Serves rows (one-before rows i) s l) (busy : Busy rows (one-before rows i) s l)
-  (unshared : Unshared rows s l) where
+    (rows : List Row) (sound : Sound rows) (i l : ℕ) (tried : Tried rows i l) (fails : l < needed rows i l)
+    (s : Schedule) (serves : Serves rows (one-before rows i) s l) (busy : Busy rows (one-before rows i) s l)
+    (unshared : Unshared rows s l) where
   some-ticks : 0 < l
   some-ticks = omega (arith, tried .above)
 
@@ -224,7 +224,7 @@ module _
       at : (o : Option Job) → s 0 ≡ o → s 0 ≡ Some (job i 0)
       at None e = absurd (idle (busy 0 (job i 0) some-ticks e (tried .within, asks-first rows i) (omega arith)))
         where
-          idle : row rows i .cost ≤ units s (job i 0) 0 → ⊥
+          idle : row-at rows i .cost ≤ units s (job i 0) 0 → ⊥
           idle le = omega (arith, sound i (tried .within))
       at (Some b) e = which (cases-eq (b .of) i)
         where
@@ -240,20 +240,20 @@ module _
               bad le = omega (arith, served .1)
 
   -- its most urgent rival has the store's least period
-  rival : Least rows (row rows i .store) (least-period rows (row rows i .store))
+  rival : Least rows (row-at rows i .store) (least-period rows (row-at rows i .store))
   rival =
-      least-law rows (row rows i .store) sound
-      (least-bound rows (row rows i .store) sound i (tried .within) refl .0)
+      least-law rows (row-at rows i .store) sound
+      (least-bound rows (row-at rows i .store) sound i (tried .within) refl .0)
 
-  rival-below : row rows (rival .user) .period < l
+  rival-below : row-at rows (rival .user) .period < l
   rival-below = omega (arith, rival .own, tried .above)
 
   other : rival .user ≢ i
-  other e = omega (arith, ap (λ j. row rows j .period) e, rival-below, tried .below)
+  other e = omega (arith, ap (λ j. row-at rows j .period) e, rival-below, tried .below)
 
   -- as many jobs of each row as are due by l: one of row i, and the others' from 1 on
   count : ℕ → ℕ
-  count j = cond (eqb j i) 1 (jobs (row rows j) (l - 1))
+  count j = cond (eqb j i) 1 (jobs (row-at rows j) (l - 1))
 
   start : ℕ → ℕ
   start j = cond (eqb j i) 0 1
@@ -261,12 +261,12 @@ module _
   count-i : (j : ℕ) → j ≡ i → (count j ≡ 1) × (start j ≡ 0)
   unfolding count start
   count-i j e =
-      (cond-true (eqb j i) 1 (jobs (row rows j) (l - 1)) (eq-eqb j i e), cond-true (eqb j i) 0 1 (eq-eqb j i e))
+      (cond-true (eqb j i) 1 (jobs (row-at rows j) (l - 1)) (eq-eqb j i e), cond-true (eqb j i) 0 1 (eq-eqb j i e))
 
-  count-else : (j : ℕ) → j ≢ i → (count j ≡ jobs (row rows j) (l - 1)) × (start j ≡ 1)
+  count-else : (j : ℕ) → j ≢ i → (count j ≡ jobs (row-at rows j) (l - 1)) × (start j ≡ 1)
   unfolding count start
   count-else j ne =
-      (cond-false (eqb j i) 1 (jobs (row rows j) (l - 1)) (ne-eqb j i ne), cond-false (eqb j i) 0 1 (ne-eqb j i ne))
+      (cond-false (eqb j i) 1 (jobs (row-at rows j) (l - 1)) (ne-eqb j i ne), cond-false (eqb j i) 0 1 (ne-eqb j i ne))
 
   -- if all the others are in time
   module _ (all : (j : ℕ) → j < length rows → j ≢ i → In-time rows sound (one-before rows i) s l j 1 (l - 1)) where
@@ -279,7 +279,7 @@ module _
         k = rival .user
 
         b : Job
-        b = job k (1 + 0 * row rows k .period)
+        b = job k (1 + 0 * row-at rows k .period)
 
         k-within : k < length rows
         k-within = rival .within
@@ -291,7 +291,7 @@ module _
               arith,
               sound k k-within,
               all k k-within other 0
-                  (jobs-some (row rows k) (l - 1) (positive rows sound (one-before rows i) s l k k-within)
+                  (jobs-some (row-at rows k) (l - 1) (positive rows sound (one-before rows i) s l k k-within)
                   (omega (arith, rival-below))),
             ))
 
@@ -304,10 +304,10 @@ module _
         apart : job i 0 ≢ b
         apart e = other (sym (ap (λ y. y .of) e))
 
-        same : row rows i .store ≡ row rows k .store
+        same : row-at rows i .store ≡ row-at rows k .store
         same = sym (rival .uses)
 
-        stored : row rows k .store ≢ 0
+        stored : row-at rows k .store ≢ 0
         stored z = tried .stored (same ∙ z)
 
         begun : 1 ≤ units s (job i 0) u
@@ -328,23 +328,23 @@ module _
           arith,
           fails,
           finished-fit rows s count start l (positive rows sound (one-before rows i) s l) done,
-          sum-split (length rows) i (λ j. count j * row rows j .cost) (tried .within),
-          ap (λ m. m * row rows i .cost) (count-i i refl .0),
-          but-same (length rows) i (λ j. count j * row rows j .cost) (λ j. demand (row rows j) (l - 1))
-              (λ j _ ne. ap (λ m. m * row rows j .cost) (count-else j ne .0) ∙ sym (demand-is (row rows j) (l - 1))),
+          sum-split (length rows) i (λ j. count j * row-at rows j .cost) (tried .within),
+          ap (λ m. m * row-at rows i .cost) (count-i i refl .0),
+          but-same (length rows) i (λ j. count j * row-at rows j .cost) (λ j. demand (row-at rows j) (l - 1))
+              (λ j _ ne. ap (λ m. m * row-at rows j .cost) (count-else j ne .0) ∙ sym (demand-is (row-at rows j) (l - 1))),
         )
       where
-        done : (j k : ℕ) → j < length rows → k < count j → Finished rows s (job j (start j + k * row rows j .period)) l
+        done : (j k : ℕ) → j < length rows → k < count j → Finished rows s (job j (start j + k * row-at rows j .period)) l
         done j k lj lk = which (cases-eq j i)
           where
-            which : (j ≡ i) ⊎ (j ≡ i → ⊥) → Finished rows s (job j (start j + k * row rows j .period)) l
+            which : (j ≡ i) ⊎ (j ≡ i → ⊥) → Finished rows s (job j (start j + k * row-at rows j .period)) l
             which (inl e) =
                 let zero-k : k ≡ 0 = omega (arith, count-i j e .0) in
-                let from : start j + k * row rows j .period ≡ 0
-                = omega (arith, count-i j e .1, ap (λ m. m * row rows j .period) zero-k) in
-                omega (arith, finished, ap (λ m. row rows m .cost) e, ap₂ (λ m a. units s (job m a) l) e from)
+                let from : start j + k * row-at rows j .period ≡ 0
+                = omega (arith, count-i j e .1, ap (λ m. m * row-at rows j .period) zero-k) in
+                omega (arith, finished, ap (λ m. row-at rows m .cost) e, ap₂ (λ m a. units s (job m a) l) e from)
             which (inr ne) =
-                let from : start j + k * row rows j .period ≡ 1 + k * row rows j .period
+                let from : start j + k * row-at rows j .period ≡ 1 + k * row-at rows j .period
                 = omega (arith, count-else j ne .1) in
                 omega (
                   arith,
@@ -399,6 +399,6 @@ blocking-is-hopeless rows i l sound tried fails = record {
 pub refusals-are-deserved : Refusals-are-deserved
 refusals-are-deserved rows h Fit sound right = tt
 refusals-are-deserved rows h (Overloaded x y) sound right =
-    subst (Overload-is-hopeless rows) (sym (right .whole)) (overload-is-hopeless rows h sound (right .heavy))
+    subst (Overload-is-hopeless rows) (sym (right .first-is)) (overload-is-hopeless rows h sound (right .load-exceeds))
 refusals-are-deserved rows h (Blocked n l) sound right =
     blocking-is-hopeless rows (n - 1) l sound (right .first .tried) (right .first .fails)

@@ -1,6 +1,6 @@
 -- The least period of a store's users.
 use Prim.Native.Nat.{ℕ, suc, zero, _≤_, _<_}
-use Rattle.feasibility.specs.Tables.{row, Limited, Sound, lower, least-period, Least}
+use Rattle.feasibility.specs.Tables.{row-at, Limited, Sound, lower, least-period, Least}
 use Rattle.feasibility.specs.declared.row.Row.{Row}
 use Rattle.std.proofs.shelf.Tests.{cases-eq, cases-lt, cond-true, cond-false, eq-eqb, ne-eqb}
 use Rattle.std.proofs.shelf.Ways.{tells}
@@ -64,8 +64,8 @@ least-short (x ∷ xs) r sound =
 
 -- a user of the store bounds it
 pub least-bound :
-    (rows : List Row) (r : ℕ) → Sound rows → (j : ℕ) → j < length rows → row rows j .store ≡ r →
-    (1 ≤ least-period rows r) × (least-period rows r ≤ row rows j .period)
+    (rows : List Row) (r : ℕ) → Sound rows → (j : ℕ) → j < length rows → row-at rows j .store ≡ r →
+    (1 ≤ least-period rows r) × (least-period rows r ≤ row-at rows j .period)
 unfolding own
 least-bound [] r sound j l e = omega arith
 least-bound (x ∷ xs) r sound zero l e =
@@ -81,7 +81,7 @@ least-bound (x ∷ xs) r sound (suc j) l e =
 -- it is the period of a user, if there is one
 user :
     (rows : List Row) (r : ℕ) → 1 ≤ least-period rows r →
-    (k : ℕ) × (k < length rows) × (row rows k .store ≡ r) × (row rows k .period ≡ least-period rows r)
+    (k : ℕ) × (k < length rows) × (row-at rows k .store ≡ r) × (row-at rows k .period ≡ least-period rows r)
 unfolding own
 user [] r some = absurd (none some)
   where
@@ -91,10 +91,10 @@ user (x ∷ xs) r some = at (user xs r) (lower-is (own x r) (least-period xs r) 
   where
     at :
         (1 ≤ least-period xs r →
-        (k : ℕ) × (k < length xs) × (row xs k .store ≡ r) × (row xs k .period ≡ least-period xs r)) →
+        (k : ℕ) × (k < length xs) × (row-at xs k .store ≡ r) × (row-at xs k .period ≡ least-period xs r)) →
         ((1 ≤ own x r) × (least-period (x ∷ xs) r ≡ own x r)) ⊎
         ((1 ≤ least-period xs r) × (least-period (x ∷ xs) r ≡ least-period xs r)) →
-        (k : ℕ) × (k < length (x ∷ xs)) × (row (x ∷ xs) k .store ≡ r) × (row (x ∷ xs) k .period ≡ least-period (x ∷ xs) r)
+        (k : ℕ) × (k < length (x ∷ xs)) × (row-at (x ∷ xs) k .store ≡ r) × (row-at (x ∷ xs) k .period ≡ least-period (x ∷ xs) r)
     at rest (inl here) =
         let uses = own-uses x r (here .0) in (0, omega arith, uses .0, sym (uses .1) ∙ sym (here .1))
     at rest (inr later) =
@@ -112,7 +112,7 @@ least-law rows r sound some =
     }
 
 pub least-none :
-    (rows : List Row) (r : ℕ) → Sound rows → least-period rows r ≡ 0 → (j : ℕ) → j < length rows → row rows j .store ≢ r
+    (rows : List Row) (r : ℕ) → Sound rows → least-period rows r ≡ 0 → (j : ℕ) → j < length rows → row-at rows j .store ≢ r
 least-none rows r sound none j l e = bad (least-bound rows r sound j l e .0)
   where
     bad : 1 ≤ least-period rows r → ⊥

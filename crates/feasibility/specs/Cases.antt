@@ -1,12 +1,14 @@
 -- Tables whose verdicts are worked out by hand.
-use Prim.Native.Nat.{ℕ}
-use Rattle.feasibility.specs.Tables.{Hyperperiod, load}
+use Prim.Native.Nat.{ℕ, _≤_}
+use Rattle.feasibility.specs.Limits.{max-rows}
+use Rattle.feasibility.specs.Tables.{Sound, Hyperperiod, load-of}
 use Rattle.feasibility.specs.Told.{told}
 use Rattle.feasibility.specs.Verdicts.{Judged}
 use Rattle.feasibility.specs.declared.row.Row.{Row}
 use Rattle.feasibility.specs.declared.verdict.Verdict.{Verdict}
 use Rattle.feasibility.specs.declared.verdict.Verdict.the-variants.{Fit, Overloaded, Blocked}
 use Rattle.std.specs.shelf.Lists.{All}
+use lib.ListN.{length}
 use mathlib.Core.List.{List, [], _∷_}
 use mathlib.Core.Path.{_≡_}
 
@@ -38,8 +40,10 @@ cases =
 
 -- What the definitions say of a case.
 pub record Stands (c : Case) : Type 0 where
-  pub whole : Hyperperiod (c .rows) (c .hyperperiod)
-  pub asked : load (c .rows) (c .hyperperiod) ≡ c .load
+  pub room : length (c .rows) ≤ max-rows
+  pub sound : Sound (c .rows)
+  pub hyperperiod-is : Hyperperiod (c .rows) (c .hyperperiod)
+  pub load-is : load-of (c .rows) (c .hyperperiod) ≡ c .load
   pub judged : Judged (c .rows) (c .hyperperiod) (told (c .verdict))
 
 abbrev pub Cases-stand : Type 0

@@ -1,6 +1,7 @@
 -- What a table holds.
 use Prim.Native.Nat.{ℕ, _-_}
-use Rattle.feasibility.specs.Tables.{row, least-period}
+use Rattle.feasibility.specs.Limits.{max-store}
+use Rattle.feasibility.specs.Tables.{row-at, least-period}
 use Rattle.feasibility.specs.declared.row.Row.{Row}
 use Rattle.feasibility.specs.declared.rows.Rows.{Rows}
 use Rattle.std.specs.declared.option.Option.{Option}
@@ -20,9 +21,9 @@ hyperperiod-of t = t .hyperperiod
 
 -- The row under the number n, from 1, if there is one.
 abbrev pub numbered : List Row → ℕ → Option Row
-numbered rows n = cond (ltb 0 n && leb n (length rows)) (Some (row rows (n - 1))) None
+numbered rows n = cond (ltb 0 n && leb n (length rows)) (Some (row-at rows (n - 1))) None
 
 -- The least period of the users of the store r, from 1 to 8, if it has any.
 abbrev pub least-told : List Row → ℕ → Option ℕ
 least-told rows r =
-    cond (ltb 0 r && leb r 8) (cond (eqb (least-period rows r) 0) None (Some (least-period rows r))) None
+    cond (ltb 0 r && leb r max-store) (cond (eqb (least-period rows r) 0) None (Some (least-period rows r))) None

@@ -2,19 +2,19 @@
 use Prim.Native.Nat.{ℕ, _*_, _%_, _≤_, _<_}
 use mathlib.Core.Path.{_≡_}
 
--- What b divides in a * s, it divides in g * s: so b is made of g and of what a lacks.
+-- Where b divides a multiple of a, it divides the same multiple of g: g has all that a and b share.
 abbrev pub Cancels : ℕ → ℕ → ℕ → Type 0
 Cancels a b g = (s : ℕ) → (a * s) % b ≡ 0 → (g * s) % b ≡ 0
 
--- g is the greatest common divisor of a and b.
-pub record Common-divisor (a b g : ℕ) : Type 0 where
+-- g is the greatest common divisor of a and b, put as the least common multiple needs it.
+pub record Greatest-common-divisor (a b g : ℕ) : Type 0 where
   pub positive : 0 < g
   pub first : a % g ≡ 0
   pub second : b % g ≡ 0
   pub greatest : Cancels a b g
 
 -- n is the least positive number that a and b divide.
-pub record Least-common (a b n : ℕ) : Type 0 where
+pub record Least-common-multiple (a b n : ℕ) : Type 0 where
   pub positive : 0 < n
   pub first : n % a ≡ 0
   pub second : n % b ≡ 0

@@ -1,7 +1,7 @@
 -- A refused table is hopeless: under requests that the verdict names, every schedule is late.
 use Prim.Native.Nat.{ℕ, _-_, _%_}
 use Rattle.feasibility.specs.Schedules.{Requests, Schedule, Lawful, Serves, Busy, Unshared, Late-by}
-use Rattle.feasibility.specs.Tables.{row, Sound}
+use Rattle.feasibility.specs.Tables.{row-at, Sound}
 use Rattle.feasibility.specs.Told.{Told, told}
 use Rattle.feasibility.specs.Verdicts.{Judged}
 use Rattle.feasibility.specs.declared.row.Row.{Row}
@@ -13,11 +13,11 @@ use mathlib.Core.List.{List}
 
 -- Every row is requested from 0 on at each of its periods.
 abbrev pub all-at-once : List Row → Requests
-all-at-once rows j a = eqb (a % row rows j .period) 0
+all-at-once rows j a = eqb (a % row-at rows j .period) 0
 
 -- Row i is requested at 0, and every other row from 1 on at each of its periods.
 abbrev pub one-before : List Row → ℕ → Requests
-one-before rows i j a = cond (eqb j i) (eqb a 0) (cond (eqb a 0) false (eqb ((a - 1) % row rows j .period) 0))
+one-before rows i j a = cond (eqb j i) (eqb a 0) (cond (eqb a 0) false (eqb ((a - 1) % row-at rows j .period) 0))
 
 -- All rows at once: every schedule is late at a due time up to h.
 pub record Overload-is-hopeless (rows : List Row) (h : ℕ) : Type 0 where

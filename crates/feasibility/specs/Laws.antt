@@ -7,7 +7,7 @@ use Rattle.feasibility.specs.declared.verdict.Verdict.{Verdict}
 use mathlib.Core.List.{List}
 use mathlib.Core.Path.{_≡_}
 
--- Of any rows and any hyperperiod exactly one verdict is right.
+-- Of any rows, with any number h in the place of the hyperperiod, exactly one verdict is right.
 abbrev pub One-verdict : Type 0
 One-verdict =
     (rows : List Row) (h : ℕ) →

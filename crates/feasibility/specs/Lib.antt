@@ -4,6 +4,7 @@ pub mod Divisors
 pub mod Drafts
 pub mod Hopeless
 pub mod Laws
+pub mod Limits
 pub mod Refusals
 pub mod Schedules
 pub mod Sums

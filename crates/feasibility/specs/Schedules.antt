@@ -1,7 +1,7 @@
 -- Requests, jobs and schedules on one processor. Time is counted in ticks; tick t begins at time t and ends at t + 1.
 use Prim.Native.Nat.{ℕ, _+_, _≤_, _<_}
 use Rattle.feasibility.specs.Sums.{Σ<}
-use Rattle.feasibility.specs.Tables.{row}
+use Rattle.feasibility.specs.Tables.{row-at}
 use Rattle.feasibility.specs.declared.row.Row.{Row}
 use Rattle.std.specs.declared.option.Option.{Option}
 use Rattle.std.specs.declared.option.Option.the-variants.{Some, None}
@@ -30,12 +30,12 @@ abbrev pub relative-deadline : Row → ℕ
 relative-deadline x = x .period
 
 abbrev pub due : List Row → Job → ℕ
-due rows b = b .at + relative-deadline (row rows (b .of))
+due rows b = b .at + relative-deadline (row-at rows (b .of))
 
 -- The requests of each row are at least its period apart.
 abbrev pub Lawful : List Row → Requests → Type 0
 Lawful rows asks =
-    (j a b : ℕ) → j < length rows → asks j a ≡ true → asks j b ≡ true → a < b → a + row rows j .period ≤ b
+    (j a b : ℕ) → j < length rows → asks j a ≡ true → asks j b ≡ true → a < b → a + row-at rows j .period ≤ b
 
 abbrev pub Requested : List Row → Requests → Job → Type 0
 Requested rows asks b = (b .of < length rows) × (asks (b .of) (b .at) ≡ true)
@@ -51,10 +51,10 @@ units s b t = Σ< t (λ u. unit (s u) b)
 
 -- A job lacks a unit at time t, or has all that it costs.
 abbrev pub Unfinished : List Row → Schedule → Job → ℕ → Type 0
-Unfinished rows s b t = units s b t < row rows (b .of) .cost
+Unfinished rows s b t = units s b t < row-at rows (b .of) .cost
 
 abbrev pub Finished : List Row → Schedule → Job → ℕ → Type 0
-Finished rows s b t = row rows (b .of) .cost ≤ units s b t
+Finished rows s b t = row-at rows (b .of) .cost ≤ units s b t
 
 -- What a schedule does before time l. A schedule without end does it before every time.
 
@@ -71,8 +71,8 @@ Busy rows asks s l =
 -- From the first unit of a job that uses a store until it is finished, no other job on that store gets one.
 abbrev pub Unshared : List Row → Schedule → ℕ → Type 0
 Unshared rows s l =
-    (t : ℕ) (b other : Job) → t < l → s t ≡ Some b → other ≢ b → row rows (b .of) .store ≢ 0 →
-    row rows (other .of) .store ≡ row rows (b .of) .store →
+    (t : ℕ) (b other : Job) → t < l → s t ≡ Some b → other ≢ b → row-at rows (b .of) .store ≢ 0 →
+    row-at rows (other .of) .store ≡ row-at rows (b .of) .store →
     (units s other t ≡ 0) ⊎ Finished rows s other t
 
 -- Some requested job with a due time of at most l lacks a unit at its due time.

@@ -1,12 +1,11 @@
 // A table that still takes rows.
 ghost use mathlib.Core.List.{[]};
 ghost use mathlib.Core.Path.{_≡_};
-ghost use Prim.Native.Nat.{_<_};
 ghost use Rattle.std.specs.Results.{Cases};
 ghost use Rattle.feasibility.specs.Contents.{rows-of, hyperperiod-of};
-ghost use Rattle.feasibility.specs.Drafts.{own-fault, Taken, Refused};
+ghost use Rattle.feasibility.specs.Drafts.{Taken, Refused};
 ghost use Rattle.feasibility.specs.Refusals.{refusal-number};
-ghost use Rattle.feasibility.specs.Tables.{Limited};
+use crate::row::MAX_ROWS;
 use crate::row::Row;
 use crate::row::RowRefusal;
 use crate::rows::Rows;
@@ -30,10 +29,10 @@ impl Draft {
     pub fn add(&mut self, row: Row) -> Result<(), RowRefusal>
         ensures { λ r. ⌜ Cases r (λ _. Taken (rows-of (now (self .entry) .rows)) row (rows-of (now (self .exit) .rows)) (hyperperiod-of (now (self .exit) .rows))) (λ e. Refused (rows-of (now (self .entry) .rows)) row (refusal-number e) × (now (self .exit) ≡ now (self .entry))) ⌝ }
     {
-        if self.rows.count() == 32 {
+        if self.rows.count() == MAX_ROWS {
             return Err(RowRefusal::Full);
         }
-        check_limits(row)?;
+        row.check_limits()?;
         let hyperperiod = self.rows.hyperperiod_with(row)?;
         self.rows.push(row, hyperperiod);
         Ok(())
@@ -57,20 +56,4 @@ pub impl Deref for Draft as DraftRows {
     fn deref(&self) -> &Rows {
         &self.rows
     }
-}
-
-// The limits of a row by itself.
-fn check_limits(row: Row) -> Result<(), RowRefusal>
-    ensures { λ r. ⌜ Cases r (λ _. Limited row × (own-fault row ≡ 0)) (λ e. (refusal-number e ≡ own-fault row) × (0 < refusal-number e)) ⌝ }
-{
-    if row.period == 0 || row.period > 65535 {
-        return Err(RowRefusal::Period);
-    }
-    if row.cost == 0 || row.cost > row.period {
-        return Err(RowRefusal::Cost);
-    }
-    if row.store > 8 {
-        return Err(RowRefusal::Store);
-    }
-    Ok(())
 }

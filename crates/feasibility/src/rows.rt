@@ -1,8 +1,9 @@
 // The rows of a table, draft or sealed.
 ghost use mathlib.Core.Path.{_≡_};
-ghost use Prim.Native.Nat.{ℕ, _+_, _<_, _≤_};
-ghost use lib.ListN.{length, getD, take};
-ghost use Rattle.feasibility.specs.Tables.{Sound, Hyperperiod, least-period};
+ghost use Prim.Native.Nat.{_≤_};
+ghost use lib.ListN.{length, take};
+ghost use Rattle.feasibility.specs.Limits.{max-rows, max-hyperperiod};
+ghost use Rattle.feasibility.specs.Tables.{Sound, Hyperperiod, Least-periods};
 use crate::row::Row;
 
 // At most 32 rows within their limits, with what later calls ask of them again and again: their true hyperperiod, and
@@ -14,12 +15,12 @@ pub struct Rows {
     count: u32,
     hyperperiod: u32,
     least: [u32; 9],
-    ghost few: { count ≤ 32 },
+    ghost few: { count ≤ max-rows },
     ghost counted: { length (take count cells) ≡ count },
     ghost sound: { Sound (take count cells) },
-    ghost whole: { Hyperperiod (take count cells) hyperperiod },
-    ghost short: { hyperperiod ≤ 1000000000 },
-    ghost shortest: { (r : ℕ) → r ≤ 8 → getD least r 0 ≡ least-period (take count cells) r },
+    ghost exact: { Hyperperiod (take count cells) hyperperiod },
+    ghost within: { hyperperiod ≤ max-hyperperiod },
+    ghost shortest: { Least-periods least (take count cells) },
 }
 
 mod blocking;

@@ -2,6 +2,7 @@
 ghost use mathlib.Core.Path.{_≡_};
 ghost use Rattle.feasibility.specs.Contents.{rows-of, hyperperiod-of};
 ghost use Rattle.feasibility.specs.Hopeless.{Deserved};
+ghost use Rattle.feasibility.specs.Tables.{Hyperperiod};
 ghost use Rattle.feasibility.specs.Told.{told};
 ghost use Rattle.feasibility.specs.Verdicts.{Judged};
 use crate::rows::Rows;
@@ -21,9 +22,10 @@ impl Table {
         Table { rows }
     }
 
-    // Whether every request that the table allows can be finished in time, and if not, why.
+    // Judges the table by its load and by how long each row can keep others from its store.
     pub fn judge(&self) -> Verdict
         ensures judged { λ r. ⌜ Judged (rows-of (now (self .entry) .rows)) (hyperperiod-of (now (self .entry) .rows)) (told r) ⌝ }
+        ensures exact { λ _. ⌜ Hyperperiod (rows-of (now (self .entry) .rows)) (hyperperiod-of (now (self .entry) .rows)) ⌝ }
         ensures deserved { λ r. ⌜ Deserved (rows-of (now (self .entry) .rows)) (told r) ⌝ }
     {
         let hyperperiod = self.rows.hyperperiod();

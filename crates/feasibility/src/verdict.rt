@@ -2,14 +2,14 @@
 ghost use mathlib.Core.Path.{_≡_};
 ghost use Rattle.feasibility.specs.Told.{told};
 
-#[derive(Clone, Copy)]
+#[derive(Clone, Copy, PartialEq, Eq, Debug)]
 pub enum Verdict {
-    // Every accepted request can be finished in time.
+    // The load fits, and no row fails at any length.
     Fit,
     // The rows ask for more units in one hyperperiod than it has ticks.
     Overloaded { hyperperiod: u32, load: u64 },
-    // The first row, by its number, whose jobs can keep others from their store too long, and the first length at
-    // which that shows.
+    // The first row, by its number, that fails, and the first length at which it does: its jobs can keep others from
+    // their store for too long.
     Blocked { row: u32, length: u32 },
 }
 

@@ -5,8 +5,9 @@ ghost use lib.ListN.{length};
 ghost use Rattle.std.specs.Options.{Cases as BySome};
 ghost use Rattle.feasibility.specs.Contents.{rows-of};
 ghost use Rattle.feasibility.specs.Hopeless.{Blocking-is-hopeless};
+ghost use Rattle.feasibility.specs.Limits.{max-rows, max-period};
 ghost use Rattle.feasibility.specs.Sums.{Σ<};
-ghost use Rattle.feasibility.specs.Tables.{row as row-at, Limited, Sound};
+ghost use Rattle.feasibility.specs.Tables.{row-at, Limited, Sound};
 ghost use Rattle.feasibility.specs.Verdicts.{demand, needed, Unblocked, First-failing};
 use crate::row::Row;
 use crate::rows::Rows;
@@ -29,7 +30,8 @@ impl Rows {
         'search: for i in 0..rows.len() {
             let row = rows[i];
             if row.store != 0 {
-                for length in self.kept_period(row.store) + 1..row.period {
+                let shortest = self.kept_period(row.store);
+                for length in shortest + 1..row.period {
                     if length < units_needed(rows, i, length) {
                         found = Some((i, length));
                         break 'search;
@@ -44,7 +46,7 @@ impl Rows {
 // What row `i` and the others need within `span` ticks. Row `i` itself asks for nothing again below its period.
 fn units_needed(rows: &[Row], i: usize, span: u32) -> u32
     requires sound { ⌜ Sound (now rows) ⌝ }
-    requires few { ⌜ length (now rows) ≤ 32 ⌝ }
+    requires few { ⌜ length (now rows) ≤ max-rows ⌝ }
     requires within { ⌜ i < length (now rows) ⌝ }
     requires some { ⌜ 0 < span ⌝ }
     requires below { ⌜ span < row-at (now rows) i .period ⌝ }
@@ -57,10 +59,10 @@ fn units_needed(rows: &[Row], i: usize, span: u32) -> u32
 // What all jobs ask for that are requested and due within `span` ticks.
 fn units_asked(rows: &[Row], span: u32) -> u32
     requires sound { ⌜ Sound (now rows) ⌝ }
-    requires few { ⌜ length (now rows) ≤ 32 ⌝ }
-    requires short { ⌜ span ≤ 65535 ⌝ }
+    requires few { ⌜ length (now rows) ≤ max-rows ⌝ }
+    requires short { ⌜ span ≤ max-period ⌝ }
     ensures value { λ r. ⌜ r ≡ Σ< (length (now (rows .entry))) (λ j. demand (row-at (now (rows .entry)) j) span) ⌝ }
-    ensures bound { λ r. ⌜ r ≤ 65535 * 32 ⌝ }
+    ensures bound { λ r. ⌜ r ≤ max-period * max-rows ⌝ }
 {
     let mut sum = 0;
     for row in rows {

@@ -1,19 +1,19 @@
 // How rows come to be: none at first, then one after another.
 ghost use mathlib.Core.List.{List, [], _∷_, _++_};
 ghost use mathlib.Core.Path.{_≡_};
-ghost use Prim.Native.Nat.{ℕ, _+_, _<_, _≤_};
-ghost use lib.ListN.{length, getD, set};
+ghost use Prim.Native.Nat.{ℕ, _<_, _≤_};
+ghost use lib.ListN.{length, set};
 ghost use Rattle.std.specs.Results.{Cases};
 ghost use Rattle.feasibility.specs.Contents.{rows-of, hyperperiod-of};
 ghost use Rattle.feasibility.specs.Drafts.{Too-long};
+ghost use Rattle.feasibility.specs.Limits.{max-rows, max-store, max-hyperperiod};
 ghost use Rattle.feasibility.specs.Refusals.{refusal-number};
-ghost use Rattle.feasibility.specs.Tables.{Limited, Hyperperiod, lower, least-period};
+ghost use Rattle.feasibility.specs.Tables.{Limited, Hyperperiod, lower, Least-periods};
 use crate::divisors::least_common_multiple;
+use crate::row::MAX_HYPERPERIOD;
 use crate::row::Row;
 use crate::row::RowRefusal;
 use crate::rows::Rows;
-
-const MAX_HYPERPERIOD: u64 = 1_000_000_000;
 
 impl Rows {
     pub(crate) fn new() -> Rows
@@ -34,10 +34,10 @@ impl Rows {
     // The hyperperiod of these rows and one more, if it stays within its limit.
     pub(crate) fn hyperperiod_with(&self, row: Row) -> Result<u32, RowRefusal>
         requires { ⌜ 0 < row .period ⌝ }
-        ensures { λ r. ⌜ Cases r (λ h. Hyperperiod (rows-of (now (self .entry)) ++ row ∷ []) h × (h ≤ 1000000000)) (λ e. (refusal-number e ≡ 5) × Too-long (rows-of (now (self .entry)) ++ row ∷ [])) ⌝ }
+        ensures { λ r. ⌜ Cases r (λ h. Hyperperiod (rows-of (now (self .entry)) ++ row ∷ []) h × (h ≤ max-hyperperiod)) (λ e. (refusal-number e ≡ 5) × Too-long (rows-of (now (self .entry)) ++ row ∷ [])) ⌝ }
     {
         let hyperperiod = least_common_multiple(self.hyperperiod, row.period);
-        if hyperperiod > MAX_HYPERPERIOD {
+        if hyperperiod > MAX_HYPERPERIOD as u64 {
             return Err(RowRefusal::Hyperperiod);
         }
         Ok(hyperperiod as u32)
@@ -45,13 +45,13 @@ impl Rows {
 
     // One row more at the end.
     pub(crate) fn push(&mut self, row: Row, hyperperiod: u32)
-        requires room { ⌜ length (rows-of (now self)) < 32 ⌝ }
+        requires room { ⌜ length (rows-of (now self)) < max-rows ⌝ }
         requires limited { ⌜ Limited row ⌝ }
-        requires whole { ⌜ Hyperperiod (rows-of (now self) ++ row ∷ []) hyperperiod ⌝ }
-        requires short { ⌜ hyperperiod ≤ 1000000000 ⌝ }
+        requires exact { ⌜ Hyperperiod (rows-of (now self) ++ row ∷ []) hyperperiod ⌝ }
+        requires within { ⌜ hyperperiod ≤ max-hyperperiod ⌝ }
         ensures rows { λ _. ⌜ rows-of (now (self .exit)) ≡ rows-of (now (self .entry)) ++ row ∷ [] ⌝ }
-        ensures whole { λ _. ⌜ Hyperperiod (rows-of (now (self .entry)) ++ row ∷ []) (hyperperiod-of (now (self .exit))) ⌝ }
-        ensures short { λ _. ⌜ hyperperiod-of (now (self .exit)) ≤ 1000000000 ⌝ }
+        ensures exact { λ _. ⌜ Hyperperiod (rows-of (now (self .entry)) ++ row ∷ []) (hyperperiod-of (now (self .exit))) ⌝ }
+        ensures within { λ _. ⌜ hyperperiod-of (now (self .exit)) ≤ max-hyperperiod ⌝ }
     {
         place(&mut self.cells, self.count, row);
         note_period(&mut self.least, row);
@@ -62,7 +62,7 @@ impl Rows {
 
 // Puts a row after the first `count`.
 fn place(cells: &mut [Row; 32], count: u32, row: Row)
-    requires { ⌜ count < 32 ⌝ }
+    requires { ⌜ count < max-rows ⌝ }
     ensures { λ _. ⌜ now (cells .exit) ≡ set (now (cells .entry)) count row ⌝ }
 {
     cells[count as usize] = row;
@@ -70,8 +70,8 @@ fn place(cells: &mut [Row; 32], count: u32, row: Row)
 
 // The least periods after one row more.
 fn note_period(least: &mut [u32; 9], row: Row)
-    requires { ⌜ row .store ≤ 8 ⌝ }
-    ensures { λ _. ⌜ ((rows : List Row) → ((r : ℕ) → r ≤ 8 → getD (now (least .entry)) r 0 ≡ least-period rows r) → (r : ℕ) → r ≤ 8 → getD (now (least .exit)) r 0 ≡ least-period (rows ++ row ∷ []) r) ⌝ }
+    requires { ⌜ row .store ≤ max-store ⌝ }
+    ensures { λ _. ⌜ ((rows : List Row) → Least-periods (now (least .entry)) rows → Least-periods (now (least .exit)) (rows ++ row ∷ [])) ⌝ }
 {
     let store = row.store as usize;
     least[store] = lower_of(least[store], row.period);

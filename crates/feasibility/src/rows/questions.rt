@@ -5,7 +5,9 @@ ghost use lib.ListN.{length};
 ghost use Rattle.std.specs.Options.{Cases};
 ghost use Rattle.feasibility.specs.Contents.{rows-of, hyperperiod-of, numbered, least-told};
 ghost use Rattle.feasibility.specs.Hopeless.{Overload-is-hopeless};
-ghost use Rattle.feasibility.specs.Tables.{Limited, Sound, Hyperperiod, share, least-period, Least, Unused, load as load-of};
+ghost use Rattle.feasibility.specs.Limits.{max-rows, max-period, max-store, max-hyperperiod};
+ghost use Rattle.feasibility.specs.Tables.{Limited, Sound, Hyperperiod, share, least-period, Least, Unused, load-of};
+use crate::row::MAX_STORE;
 use crate::row::Row;
 use crate::rows::Rows;
 
@@ -32,7 +34,7 @@ impl Rows {
     pub fn hyperperiod(&self) -> u32
         ensures value { λ r. ⌜ r ≡ hyperperiod-of (now (self .entry)) ⌝ }
         ensures law { λ r. ⌜ Hyperperiod (rows-of (now (self .entry))) r ⌝ }
-        ensures bound { λ r. ⌜ r ≤ 1000000000 ⌝ }
+        ensures bound { λ r. ⌜ r ≤ max-hyperperiod ⌝ }
     {
         self.hyperperiod
     }
@@ -50,7 +52,7 @@ impl Rows {
         ensures value { λ r. ⌜ r ≡ least-told (rows-of (now (self .entry))) store ⌝ }
         ensures law { λ r. ⌜ Cases r (Unused (rows-of (now (self .entry))) store) (λ p. Least (rows-of (now (self .entry))) store p) ⌝ }
     {
-        if store == 0 || store > 8 {
+        if store == 0 || store > MAX_STORE {
             return None;
         }
         match self.kept_period(store) {
@@ -61,9 +63,9 @@ impl Rows {
 
     // The least period that is kept for a store, 0 if no row uses it.
     pub(crate) fn kept_period(&self, store: u32) -> u32
-        requires { ⌜ store ≤ 8 ⌝ }
+        requires { ⌜ store ≤ max-store ⌝ }
         ensures value { λ r. ⌜ r ≡ least-period (rows-of (now (self .entry))) store ⌝ }
-        ensures bound { λ r. ⌜ r ≤ 65535 ⌝ }
+        ensures bound { λ r. ⌜ r ≤ max-period ⌝ }
         ensures none { λ r. ⌜ (r ≡ 0 → Unused (rows-of (now (self .entry))) store) ⌝ }
         ensures some { λ r. ⌜ (0 < r → Least (rows-of (now (self .entry))) store r) ⌝ }
     {
@@ -73,7 +75,7 @@ impl Rows {
     pub(crate) fn as_slice(&self) -> &[Row]
         ensures rows { λ r. ⌜ now r ≡ rows-of (now (self .entry)) ⌝ }
         ensures sound { λ r. ⌜ Sound (now r) ⌝ }
-        ensures few { λ r. ⌜ length (now r) ≤ 32 ⌝ }
+        ensures few { λ r. ⌜ length (now r) ≤ max-rows ⌝ }
     {
         &self.cells[0..self.count as usize]
     }
@@ -82,7 +84,7 @@ impl Rows {
 // Adds each row's share of the hyperperiod.
 fn sum_of_shares(rows: &[Row], hyperperiod: u32) -> u64
     requires sound { ⌜ Sound (now rows) ⌝ }
-    requires few { ⌜ length (now rows) ≤ 32 ⌝ }
+    requires few { ⌜ length (now rows) ≤ max-rows ⌝ }
     ensures value { λ r. ⌜ r ≡ load-of (now (rows .entry)) hyperperiod ⌝ }
     ensures worth { λ r. ⌜ (hyperperiod < r → Overload-is-hopeless (now (rows .entry)) hyperperiod) ⌝ }
 {

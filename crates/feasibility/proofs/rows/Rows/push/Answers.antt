@@ -18,9 +18,9 @@ ghost-self c =
         (
           subst Sound (sym rows) (sound-push (rows-of s) x (s .sound) (c .pre .limited)),
           (
-            subst (λ xs. Hyperperiod xs (c .args .hyperperiod)) (sym rows) (c .pre .whole),
+            subst (λ xs. Hyperperiod xs (c .args .hyperperiod)) (sym rows) (c .pre .exact),
             (
-              c .pre .short,
+              c .pre .within,
               (λ r l. c .note-period .ensures (rows-of s) (s .shortest) r l ∙ ap (λ xs. least-period xs r) (sym rows), tt),
             ),
           ),
@@ -33,6 +33,6 @@ returns c =
     let s = c .args .self .now in
     record {
       rows = rows-after (s .cells) (c .place .last .cells) (s .count) (c .args .row) (omega arith) (c .place .ensures);
-      whole = c .pre .whole;
-      short = c .pre .short;
+      exact = c .pre .exact;
+      within = c .pre .within;
     }
