@@ -31,11 +31,11 @@ use mathlib.Core.Path.{_≡_, refl}
 use native.Mathlib.Omega.{arith}
 
 -- p holds of every number below n
-abbrev all< : ℕ → (ℕ → Bool) → Bool
+abbrev pub all< : ℕ → (ℕ → Bool) → Bool
 all< zero p = true
 all< (suc n) p = p n && all< n p
 
-all<-at : (n : ℕ) (p : ℕ → Bool) → Decides (all< n p) ((k : ℕ) → k < n → p k ≡ true)
+pub all<-at : (n : ℕ) (p : ℕ → Bool) → Decides (all< n p) ((k : ℕ) → k < n → p k ≡ true)
 all<-at n p = decides-below-and p (λ k. p k ≡ true) (λ m. all< m p) (λ k. (λ e. e, λ e. e)) refl (λ _. refl) n
 
 abbrev common : List Row → ℕ → Bool

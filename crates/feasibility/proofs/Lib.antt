@@ -3,6 +3,7 @@ pub mod Counting
 pub mod Demands
 pub mod Euclid
 pub mod OneVerdict
+pub mod Planned
 pub mod Pushes
 pub mod Refused
 pub mod Stores

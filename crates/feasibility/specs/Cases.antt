@@ -24,15 +24,21 @@ row c p r = record { cost = c; period = p; store = r }
 abbrev case : List Row → ℕ → ℕ → Verdict → Case
 case rows h l v = record { rows = rows; hyperperiod = h; load = l; verdict = v }
 
+abbrev pub case-D : Case
+case-D = case (row 1 2 0 ∷ row 1 3 0 ∷ row 1 6 0 ∷ row 1 6 0 ∷ []) 6 7 (Overloaded 6 7)
+
+abbrev pub case-F : Case
+case-F = case (row 1 2 1 ∷ row 3 6 1 ∷ []) 6 6 (Blocked 2 3)
+
 -- A to I, in this order.
 abbrev pub cases : List Case
 cases =
     case [] 1 0 Fit
     ∷ case (row 1 1 1 ∷ []) 1 1 Fit
     ∷ case (row 1 2 0 ∷ row 1 3 0 ∷ row 1 6 0 ∷ []) 6 6 Fit
-    ∷ case (row 1 2 0 ∷ row 1 3 0 ∷ row 1 6 0 ∷ row 1 6 0 ∷ []) 6 7 (Overloaded 6 7)
+    ∷ case-D
     ∷ case (row 1 2 1 ∷ row 2 4 1 ∷ []) 4 4 Fit
-    ∷ case (row 1 2 1 ∷ row 3 6 1 ∷ []) 6 6 (Blocked 2 3)
+    ∷ case-F
     ∷ case (row 1 2 1 ∷ row 2 6 1 ∷ []) 6 5 Fit
     ∷ case (row 1 4 0 ∷ row 1 5 1 ∷ row 1 6 1 ∷ row 5 25 2 ∷ row 5 28 2 ∷ []) 2100 2090 Fit
     ∷ case (row 1 4 0 ∷ row 1 5 1 ∷ row 1 6 1 ∷ row 5 25 1 ∷ row 5 28 1 ∷ []) 2100 2090 (Blocked 4 6)

@@ -1,5 +1,6 @@
 -- A refused table is hopeless: under requests that the verdict names, every schedule is late.
 use Prim.Native.Nat.{ℕ, _-_, _%_}
+use Rattle.feasibility.specs.Cases.{case-D, case-F}
 use Rattle.feasibility.specs.Schedules.{Requests, Schedule, Lawful, Serves, Busy, Unshared, Late-by}
 use Rattle.feasibility.specs.Tables.{row-at, Sound}
 use Rattle.feasibility.specs.Told.{Told, told}
@@ -40,3 +41,14 @@ Deserved rows t =
 abbrev pub Refusals-are-deserved : Type 0
 Refusals-are-deserved =
     (rows : List Row) (h : ℕ) (v : Verdict) → Sound rows → Judged rows h (told v) → Deserved rows (told v)
+
+-- There is a busy schedule that shares no store before l, so what is said of each of them is not said of none.
+pub record Possible (rows : List Row) (asks : Requests) (l : ℕ) : Type 0 where
+  pub schedule : Schedule
+  pub serves : Serves rows asks schedule l
+  pub busy : Busy rows asks schedule l
+  pub unshared : Unshared rows schedule l
+
+abbrev pub Schedules-exist : Type 0
+Schedules-exist =
+    Possible (case-D .rows) (all-at-once (case-D .rows)) 6 × Possible (case-F .rows) (one-before (case-F .rows) 1) 3

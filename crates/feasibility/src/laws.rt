@@ -1,6 +1,6 @@
 // Theorems about the definitions alone. A call does nothing; what it ensures is the theorem.
 ghost use Rattle.feasibility.specs.Cases.{Cases-stand};
-ghost use Rattle.feasibility.specs.Hopeless.{Refusals-are-deserved};
+ghost use Rattle.feasibility.specs.Hopeless.{Refusals-are-deserved, Schedules-exist};
 ghost use Rattle.feasibility.specs.Laws.{One-verdict};
 
 // Of any rows exactly one of the three verdicts is right.
@@ -17,4 +17,10 @@ pub fn cases_stand()
 // every schedule is late (if blocked, every busy one that shares no store).
 pub fn refusals_are_deserved()
     ensures { λ _. ⌜ Refusals-are-deserved ⌝ }
+{}
+
+// Under the requests that the verdicts on D and F name there are busy schedules that share no store: each is late, and
+// not for want of schedules.
+pub fn schedules_exist()
+    ensures { λ _. ⌜ Schedules-exist ⌝ }
 {}
