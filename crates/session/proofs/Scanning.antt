@@ -1,7 +1,7 @@
 -- Steps of the loops that find the next field, and what a line is before and after it.
 use Prim.Native.Nat.{ℕ, _+_, _≤_, _<_}
 use Rattle.session.specs.Bytes.{is-space, is-feed, in-field}
-use Rattle.session.specs.Lines.{with-byte, first-line, ends-field, glued, fields, in-fields, next-line, with-field}
+use Rattle.session.specs.Lines.{with-byte, first-line, ends-field, glued, fields, in-fields, next-line, with-field, has, No-field, One-more}
 use Rattle.session.specs.Scans.{past-spaces, front-field, past-field, line-over}
 use Rattle.std.proofs.shelf.Edits.{between-more, between-none, length-between}
 use Rattle.std.proofs.shelf.Lists.{at-drop-all, at-drop-more, drop-all, drop-more}
@@ -78,7 +78,7 @@ module _
     drop-all i xs l ∙ sym (at-drop-all past-field xs i l) ∙ past,
   )
 
-abbrev in-line : List (List ℕ) → List ℕ → Option (List (List ℕ) × List ℕ)
+abbrev pub in-line : List (List ℕ) → List ℕ → Option (List (List ℕ) × List ℕ)
 in-line fs rest = Some (fs, rest)
 
 -- the line, if there is one, begins with a space or is empty
@@ -271,3 +271,29 @@ module _
     where
       some : front-field (drop start xs) ≡ [] → ⊥
       some e = omega (arith, length-between xs start end within, ap length front, ap length e)
+
+-- how many fields a line has, with one more and at its end
+pub has-none : (f : List ℕ) (o : Option (List (List ℕ) × List ℕ)) → has 0 (with-field f o) ≡ false
+has-none f None = refl
+has-none f (Some p) = ne-eqb (length (f ∷ p .0)) 0 (λ e. omega arith)
+
+pub one-more : (f : List ℕ) (o : Option (List (List ℕ) × List ℕ)) → One-more (with-field f o) o
+one-more f None = (refl, refl, refl)
+one-more f (Some p) = (grind (arith, tells), grind (arith, tells), grind (arith, tells))
+
+pub over-has : (bs : List ℕ) → line-over bs ≡ true → No-field (next-line bs)
+over-has [] over = (refl, refl, refl)
+over-has (b ∷ bs) over = subst No-field (sym is) (refl, refl, refl)
+  where
+    is : next-line (b ∷ bs) ≡ Some ([], bs)
+    is = ap in-fields (cond-true (is-feed b) (Some ([], bs)) (with-byte b (first-line bs)) over)
+
+pub line-ended :
+    (xs : List ℕ) (i : ℕ) → i < length xs → line-over (drop i xs) ≡ true →
+    next-line (drop i xs) ≡ Some ([], drop (i + 1) xs)
+line-ended xs i l over =
+    let at = drop-more xs i 0 l in
+    ap next-line at ∙
+    ap in-fields
+    (cond-true (is-feed (getD xs i 0)) (Some ([], drop (i + 1) xs)) (with-byte (getD xs i 0) (first-line (drop (i + 1) xs)))
+    (ap line-over (sym at) ∙ over))

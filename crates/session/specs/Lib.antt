@@ -1,4 +1,6 @@
 pub mod Bytes
+pub mod Faults
+pub mod LineKinds
 pub mod Lines
 pub mod Numbers
 pub mod Reading

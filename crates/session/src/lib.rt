@@ -1,4 +1,5 @@
 // Session files: a reader that names every fault.
 pub mod bytes;
+pub mod fault;
 pub mod field;
 pub mod reader;

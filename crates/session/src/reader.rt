@@ -4,6 +4,7 @@ ghost use denote.Ref.{now};
 ghost use lib.ListN.{length};
 
 mod fields;
+mod lines;
 
 #[derive(Drop)]
 pub struct Reader<'a> {
