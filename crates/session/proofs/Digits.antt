@@ -20,6 +20,9 @@ use native.Mathlib.Omega.{arith}
 pub room : (n i : ℕ) → n < 10 ^ i → i < 9 → n * 10 + 9 < 2 ^ 32
 room n i h l = omega (arith, pow-le-pow-right {n = 10} (omega arith) {i = i} {j = 8} (omega arith))
 
+pub nine : (n i : ℕ) → n < 10 ^ i → i ≤ 9 → n < 1000000000
+nine n i h l = omega (arith, pow-le-pow-right {n = 10} (omega arith) {i = i} {j = 9} l)
+
 pub grows : (n i d : ℕ) → n < 10 ^ i → d ≤ 9 → n * 10 + d < 10 ^ (i + 1)
 grows n i d h l = rw (add-one, pow-suc) (omega arith)
 

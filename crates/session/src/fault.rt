@@ -46,6 +46,20 @@ impl LineFault {
             LineFault::Shape | LineFault::Field(_) | LineFault::Limit => 0,
         }
     }
+
+    // The fault with the number of its line.
+    pub fn at(self, line: u32) -> Fault
+        ensures { λ r. ⌜ (r .fault ≡ self) × (r .line ≡ line) ⌝ }
+    {
+        Fault { fault: self, line }
+    }
+}
+
+// A fault of a line with the number of that line, from 1.
+#[derive(Clone, Copy)]
+pub struct Fault {
+    pub fault: LineFault,
+    pub line: u32,
 }
 
 pub impl From<FieldFault> for LineFault as FromFieldFault {

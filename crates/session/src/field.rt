@@ -1,5 +1,6 @@
 // A field of a line, and the number that it is.
 ghost use mathlib.Core.Path.{_≡_};
+ghost use Prim.Native.Nat.{_<_};
 ghost use Rattle.std.specs.Results.{Cases};
 ghost use Rattle.std.specs.declared.option.Option.the-variants.{Some, None};
 ghost use Rattle.session.specs.Numbers.{number-in};
@@ -19,7 +20,7 @@ pub enum FieldFault {
 
 // The number that some bytes are: 1 to 9 digits.
 pub fn number(bytes: &[u8]) -> Result<u32, FieldFault>
-    ensures { λ r. ⌜ Cases r (λ n. number-in (now (bytes .entry)) ≡ Some n) (λ _. number-in (now (bytes .entry)) ≡ None) ⌝ }
+    ensures { λ r. ⌜ Cases r (λ n. (number-in (now (bytes .entry)) ≡ Some n) × (n < 1000000000)) (λ _. number-in (now (bytes .entry)) ≡ None) ⌝ }
 {
     if bytes.is_empty() || bytes.len() > 9 {
         return Err(FieldFault::NotANumber);

@@ -7,6 +7,9 @@ ghost use Rattle.std.specs.declared.option.Option.the-variants.{Some};
 ghost use Rattle.session.specs.Lines.{next-line, with-field, has, No-field, One-more};
 ghost use Rattle.session.specs.LineKinds.{Line-of, Misshapen, Wrong-line};
 ghost use Rattle.session.specs.Reading.{left};
+ghost use Rattle.session.specs.Sections.{Limited-heading, Wrong-heading};
+ghost use mathlib.Core.Logic.{_≢_};
+ghost use Prim.Native.Nat.{_<_};
 ghost use Rattle.session.specs.declared.fault.LineFault.the-variants.{Shape};
 use crate::fault::LineFault;
 use crate::fault::FromFieldFault;
@@ -103,10 +106,33 @@ impl<'a> Reader<'a> {
     // A line of a word and a number.
     pub fn heading(&mut self, word: &[u8]) -> Result<u32, LineFault>
         ensures same { λ r. ⌜ now (now (self .exit) .input) ≡ now (now (self .entry) .input) ⌝ }
-        ensures line { λ r. ⌜ Cases r (λ n. Line-of (now (word .entry) ∷ []) (left (now (self .entry))) (n ∷ []) (left (now (self .exit)))) (λ e. Wrong-line (now (word .entry) ∷ []) 1 (left (now (self .entry))) e) ⌝ }
+        ensures line { λ r. ⌜ Cases r (λ n. Line-of (now (word .entry) ∷ []) (left (now (self .entry))) (n ∷ []) (left (now (self .exit))) × (n < 1000000000)) (λ e. Wrong-line (now (word .entry) ∷ []) 1 (left (now (self .entry))) e) ⌝ }
     {
         let value = self.field_after(word)?;
         let n = number(value.bytes)?;
         Ok(n)
+    }
+
+    // A line of a word and a number of at most `max`.
+    pub fn limited_heading(&mut self, word: &[u8], max: u32) -> Result<u32, LineFault>
+        ensures same { λ r. ⌜ now (now (self .exit) .input) ≡ now (now (self .entry) .input) ⌝ }
+        ensures line { λ r. ⌜ Cases r (λ n. Limited-heading (now (word .entry)) max (left (now (self .entry))) n (left (now (self .exit)))) (λ e. Wrong-heading (now (word .entry)) max (left (now (self .entry))) e) ⌝ }
+    {
+        let n = self.heading(word)?;
+        if n > max {
+            return Err(LineFault::Limit);
+        }
+        Ok(n)
+    }
+
+    // The end of the file, after its last line.
+    pub fn end(&mut self) -> Result<(), LineFault>
+        ensures { λ r. ⌜ Cases r (λ _. left (now (self .entry)) ≡ []) (λ e. (e ≡ Shape) × (left (now (self .entry)) ≢ [])) ⌝ }
+    {
+        if self.at == self.input.len() {
+            Ok(())
+        } else {
+            Err(LineFault::Shape)
+        }
     }
 }

@@ -6,6 +6,7 @@ use Rattle.session.proofs.Digits.{
   digits-more,
   grows,
   is-read,
+  nine,
   no-number,
   room,
   value-more,
@@ -53,6 +54,8 @@ pub returns : need.returns
 returns c =
     let l = c .loop-byte in
     let xs = c .args .bytes .now in
-    let some = eqb-false (length xs) 0 (sym (c .is-empty .ensures) ∙ c .if-is-empty .left) in
-    is-read xs (l .value) (l .byte-index) (c .loop-byte-test .left) (omega arith) (c .if-bytes-gt9 .left) (l .inv .2)
-    (l .inv .1)
+    let some = eqb-false (length xs) 0 (sym (c .is-empty .ensures) ∙ c .if-is-empty .left) in (
+      is-read xs (l .value) (l .byte-index) (c .loop-byte-test .left) (omega arith) (c .if-bytes-gt9 .left) (l .inv .2)
+          (l .inv .1),
+      nine (l .value) (l .byte-index) (l .inv .0) (omega arith),
+    )
