@@ -12,6 +12,8 @@ use Rattle.session.specs.Sections.{
   Arrival-fault,
 }
 use Rattle.session.specs.declared.arrival.Arrival.{Arrival}
+use Rattle.session.specs.declared.fault.Fault.{Fault}
+use Rattle.session.specs.declared.fault.Fault.the-variants.{TooLong, InLine}
 use Rattle.session.specs.declared.fault.LineFault.{LineFault}
 use Rattle.session.specs.declared.fault.LineFault.the-variants.{Shape}
 use lib.Chars.{codes}
@@ -66,3 +68,8 @@ pub data First-wrong (bs : List ℕ) : LineFault → ℕ → Type 0 where
       {rows : List Row} {ticks : ℕ} {arrivals : List Arrival} {after rest : List ℕ} →
       Begins-with-arrivals bs rows ticks (length arrivals) after → Arrivals-read (length rows) after arrivals rest →
       rest ≢ [] → First-wrong bs Shape (length rows + length arrivals + 4)
+
+-- The fault of a file that is no session: its length is tested first.
+abbrev pub Is-fault : List ℕ → Fault → Type 0
+Is-fault bs TooLong = max-bytes < length bs
+Is-fault bs (InLine p) = (length bs ≤ max-bytes) × First-wrong bs (p .fault) (p .line)

@@ -7,6 +7,7 @@ ghost use Rattle.session.specs.Limits.{max-arrivals};
 mod reading;
 
 use crate::arrival::Arrival;
+pub(crate) use reading::read_arrivals;
 
 #[derive(Clone, Copy)]
 pub struct Arrivals {

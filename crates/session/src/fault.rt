@@ -1,6 +1,7 @@
 // What can be wrong with a line.
 ghost use mathlib.Core.Path.{_≡_};
-ghost use Rattle.session.specs.Faults.{fault-number, fault-cause};
+ghost use Rattle.session.specs.Faults.{fault-number, fault-cause, told-fault};
+ghost use Rattle.session.specs.declared.fault.Fault.the-variants.{InLine as in-line};
 ghost use Rattle.session.specs.declared.fault.LineFault.the-variants.{Field as in-field, Row as in-row};
 use crate::field::FieldFault;
 use crate::field::FieldFaultDebug;
@@ -48,18 +49,65 @@ impl LineFault {
     }
 
     // The fault with the number of its line.
-    pub fn at(self, line: u32) -> Fault
+    pub fn at(self, line: u32) -> PlacedFault
         ensures { λ r. ⌜ (r .fault ≡ self) × (r .line ≡ line) ⌝ }
     {
-        Fault { fault: self, line }
+        PlacedFault { fault: self, line }
     }
 }
 
 // A fault of a line with the number of that line, from 1.
-#[derive(Clone, Copy)]
-pub struct Fault {
+#[derive(Clone, Copy, PartialEq, Eq, Debug)]
+pub struct PlacedFault {
     pub fault: LineFault,
     pub line: u32,
+}
+
+// Why a file is no session.
+#[derive(Clone, Copy, PartialEq, Eq, Debug)]
+pub enum Fault {
+    TooLong,
+    InLine(PlacedFault),
+}
+
+impl Fault {
+    // The number by which the fault is told.
+    pub fn number(self) -> u32
+        ensures { λ r. ⌜ r ≡ told-fault self .number ⌝ }
+    {
+        match self {
+            Fault::TooLong => 22,
+            Fault::InLine(placed) => placed.fault.number(),
+        }
+    }
+
+    // The number of its line, 0 for the file as a whole.
+    pub fn line(self) -> u32
+        ensures { λ r. ⌜ r ≡ told-fault self .line ⌝ }
+    {
+        match self {
+            Fault::TooLong => 0,
+            Fault::InLine(placed) => placed.line,
+        }
+    }
+
+    // The number of what caused it, 0 for none.
+    pub fn cause(self) -> u32
+        ensures { λ r. ⌜ r ≡ told-fault self .cause ⌝ }
+    {
+        match self {
+            Fault::TooLong => 0,
+            Fault::InLine(placed) => placed.fault.cause(),
+        }
+    }
+}
+
+pub impl From<PlacedFault> for Fault as FromPlacedFault {
+    ghost converts = { λ e r. r ≡ in-line e };
+
+    fn from(e: PlacedFault) -> Fault {
+        Fault::InLine(e)
+    }
 }
 
 pub impl From<FieldFault> for LineFault as FromFieldFault {

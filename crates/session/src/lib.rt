@@ -6,3 +6,4 @@ pub mod fault;
 pub mod field;
 pub mod reader;
 mod rows;
+pub mod session;

@@ -7,8 +7,8 @@ ghost use Rattle.session.specs.Sections.{Row-line, Wrong-row, Rows-read, Row-f
 ghost use lib.ListN.{length};
 ghost use Prim.Native.Nat.{_<_};
 use crate::fault::FromRowRefusal;
-use crate::fault::Fault;
 use crate::fault::LineFault;
+use crate::fault::PlacedFault;
 use crate::reader::Reader;
 use feasibility::Draft;
 use feasibility::Row;
@@ -27,7 +27,7 @@ pub(crate) fn read_row(reader: &mut Reader, draft: &mut Draft) -> Result<(), Lin
 }
 
 // Adds the rows of the next `count` lines, of which the first is line 2.
-pub(crate) fn read_rows(reader: &mut Reader, count: u32) -> Result<Draft, Fault>
+pub(crate) fn read_rows(reader: &mut Reader, count: u32) -> Result<Draft, PlacedFault>
     requires { ⌜ count < 1000000000 ⌝ }
     ensures { λ r. ⌜ Cases r (λ d. Rows-read (left (now (reader .entry))) (rows-of (d .rows)) (left (now (reader .exit))) × (length (rows-of (d .rows)) ≡ count)) (λ f. Row-fault count (left (now (reader .entry))) (f .fault) (f .line)) ⌝ }
 {

@@ -9,8 +9,8 @@ ghost use Rattle.session.specs.Reading.{left, arrivals-of};
 ghost use Rattle.session.specs.Sections.{Arrival-line, Wrong-arrival, Arrivals-read, Arrival-fault};
 use crate::arrival::Arrival;
 use crate::arrivals::Arrivals;
-use crate::fault::Fault;
 use crate::fault::LineFault;
+use crate::fault::PlacedFault;
 use crate::reader::Reader;
 
 const MAX_TIME: u32 = 4_095;
@@ -61,7 +61,7 @@ fn read_arrival(reader: &mut Reader, rows: u32) -> Result<Arrival, LineFault>
 }
 
 // The arrivals of the next `count` lines, of which the first is line `from`.
-pub(crate) fn read_arrivals(reader: &mut Reader, rows: u32, count: u32, from: u32) -> Result<Arrivals, Fault>
+pub(crate) fn read_arrivals(reader: &mut Reader, rows: u32, count: u32, from: u32) -> Result<Arrivals, PlacedFault>
     requires few { ⌜ count ≤ max-arrivals ⌝ }
     requires early { ⌜ from < 2000000000 ⌝ }
     ensures { λ r. ⌜ Cases r (λ a. Arrivals-read rows (left (now (reader .entry))) (arrivals-of a) (left (now (reader .exit))) × (length (arrivals-of a) ≡ count)) (λ f. Arrival-fault rows count from (left (now (reader .entry))) (f .fault) (f .line)) ⌝ }
