@@ -1,0 +1,50 @@
+// Bytes, numbers and whole lines, put at a place for which there is room.
+ghost use mathlib.Core.List.{[], _∷_};
+ghost use mathlib.Core.Path.{_≡_};
+ghost use Prim.Native.Nat.{_+_, _<_, _≤_};
+ghost use lib.ListN.{length};
+ghost use Rattle.std.specs.Written.{decimal};
+ghost use Rattle.report.specs.Lines.{line};
+ghost use Rattle.report.specs.Puts.{Put};
+
+fn put_byte(out: &mut [u8], at: usize, byte: u8) -> usize
+    requires { ⌜ at < length (now out) ⌝ }
+    ensures { λ r. ⌜ Put at (byte ∷ []) (now (out .entry)) (now (out .exit)) r ⌝ }
+{
+    out[at] = byte;
+    at + 1
+}
+
+// A number, in decimal without leading zeros.
+fn put_number(out: &mut [u8], at: usize, n: u64) -> usize
+    requires { ⌜ at + length (decimal n) ≤ length (now out) ⌝ }
+    ensures { λ r. ⌜ Put at (decimal n) (now (out .entry)) (now (out .exit)) r ⌝ }
+{
+    if n < 10 {
+        return put_byte(out, at, b'0' + n as u8);
+    }
+    let end = put_number(out, at, n / 10);
+    put_byte(out, end, b'0' + (n % 10) as u8)
+}
+
+// A word at the front.
+fn put_word(out: &mut [u8], word: &[u8]) -> usize
+    requires { ⌜ length (now word) ≤ length (now out) ⌝ }
+    ensures { λ r. ⌜ Put 0 (now (word .entry)) (now (out .entry)) (now (out .exit)) r ⌝ }
+{
+    out[..word.len()].copy_from_slice(word);
+    word.len()
+}
+
+// A whole line at the front.
+pub(crate) fn put_line(out: &mut [u8], word: &[u8], numbers: &[u64]) -> usize
+    requires { ⌜ length (line (now word) (now numbers)) ≤ length (now out) ⌝ }
+    ensures { λ r. ⌜ Put 0 (line (now (word .entry)) (now (numbers .entry))) (now (out .entry)) (now (out .exit)) r ⌝ }
+{
+    let mut at = put_word(out, word);
+    for n in numbers {
+        at = put_byte(out, at, b' ');
+        at = put_number(out, at, *n);
+    }
+    put_byte(out, at, b'\n')
+}
