@@ -14,5 +14,5 @@ pub short-line :
     space-for (line word (a ∷ b ∷ d ∷ [])) ≡ min-space
 short-line word a b d h ha hb hd =
     let l : length (line word (a ∷ b ∷ d ∷ [])) ≤ min-space =
-        simp length-append (omega (arith, at-most-ten a ha, at-most-ten b hb, at-most-ten d hd)) in
+    simp length-append (omega (arith, at-most-ten a ha, at-most-ten b hb, at-most-ten d hd)) in
     omega arith

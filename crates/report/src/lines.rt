@@ -8,7 +8,9 @@ ghost use Rattle.feasibility.specs.Told.{told};
 ghost use Rattle.report.specs.Limits.{min-space};
 ghost use Rattle.report.specs.Lines.{line, verdict-text, fault-text, tick-text, refusal-text};
 ghost use Rattle.report.specs.Writes.{Writes, space-for};
-use crate::put::put_line;
+use crate::put::put_byte;
+use crate::put::put_numbers;
+use crate::put::put_word;
 use crate::space::MIN_SPACE;
 use crate::space::NoSpace;
 use crate::widths::line_length;
@@ -78,5 +80,7 @@ fn write_line(out: &mut [u8], word: &[u8], numbers: &[u64]) -> Result<usize, NoS
     if out.len() < MIN_SPACE || out.len() < line_length(word, numbers) {
         return Err(NoSpace);
     }
-    Ok(put_line(out, word, numbers))
+    let at = put_word(out, word);
+    let end = put_numbers(out, at, numbers);
+    Ok(put_byte(out, end, b'\n'))
 }

@@ -4,10 +4,11 @@ ghost use mathlib.Core.Path.{_≡_};
 ghost use Prim.Native.Nat.{_+_, _<_, _≤_};
 ghost use lib.ListN.{length};
 ghost use Rattle.std.specs.Written.{decimal};
-ghost use Rattle.report.specs.Lines.{line};
+ghost use Rattle.std.specs.shelf.Lists.{joined};
+ghost use Rattle.report.specs.Lines.{spaced};
 ghost use Rattle.report.specs.Puts.{Put};
 
-fn put_byte(out: &mut [u8], at: usize, byte: u8) -> usize
+pub(crate) fn put_byte(out: &mut [u8], at: usize, byte: u8) -> usize
     requires { ⌜ at < length (now out) ⌝ }
     ensures { λ r. ⌜ Put at (byte ∷ []) (now (out .entry)) (now (out .exit)) r ⌝ }
 {
@@ -28,7 +29,7 @@ fn put_number(out: &mut [u8], at: usize, n: u64) -> usize
 }
 
 // A word at the front.
-fn put_word(out: &mut [u8], word: &[u8]) -> usize
+pub(crate) fn put_word(out: &mut [u8], word: &[u8]) -> usize
     requires { ⌜ length (now word) ≤ length (now out) ⌝ }
     ensures { λ r. ⌜ Put 0 (now (word .entry)) (now (out .entry)) (now (out .exit)) r ⌝ }
 {
@@ -36,15 +37,14 @@ fn put_word(out: &mut [u8], word: &[u8]) -> usize
     word.len()
 }
 
-// A whole line at the front.
-pub(crate) fn put_line(out: &mut [u8], word: &[u8], numbers: &[u64]) -> usize
-    requires { ⌜ length (line (now word) (now numbers)) ≤ length (now out) ⌝ }
-    ensures { λ r. ⌜ Put 0 (line (now (word .entry)) (now (numbers .entry))) (now (out .entry)) (now (out .exit)) r ⌝ }
+// Numbers, each after a space.
+pub(crate) fn put_numbers(out: &mut [u8], mut at: usize, numbers: &[u64]) -> usize
+    requires { ⌜ at + length (joined spaced (now numbers)) ≤ length (now out) ⌝ }
+    ensures { λ r. ⌜ Put at (joined spaced (now (numbers .entry))) (now (out .entry)) (now (out .exit)) r ⌝ }
 {
-    let mut at = put_word(out, word);
     for n in numbers {
         at = put_byte(out, at, b' ');
         at = put_number(out, at, *n);
     }
-    put_byte(out, at, b'\n')
+    at
 }

@@ -26,8 +26,7 @@ loop-n-again c =
 
 pub returns : need.returns
 returns c =
-    omega (
-      arith,
-      line-length (c .args .word .now) (c .args .numbers .now),
-      ap (λ (ns : List ℕ). length (joined spaced ns)) (take-all _ (c .args .numbers .now) (c .loop-n-test .left)),
-    )
+    let all = take-all (c .loop-n .n-index) (c .args .numbers .now) (c .loop-n-test .left) in
+    let parts = ap (λ (ns : List ℕ). length (joined spaced ns)) all in
+    let whole = line-length (c .args .word .now) (c .args .numbers .now) in
+    record { whole = omega arith; parts = omega arith }

@@ -1,4 +1,4 @@
-use Rattle.report.proofs.put.put_line.Given as given
+use Rattle.report.proofs.put.put_numbers.Given as given
 use Rattle.report.specs.Lines.{spaced}
 use Rattle.report.specs.Puts.{Put}
 use Rattle.std.specs.shelf.Lists.{joined}
