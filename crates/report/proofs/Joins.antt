@@ -1,6 +1,6 @@
 -- The numbers of a line, one by one.
 use Prim.Native.Nat.{ℕ, zero, suc, _+_, _≤_, _<_, zero-le}
-use Rattle.report.specs.Lines.{line, spaced}
+use Rattle.report.specs.Lines.{line-of, spaced}
 use Rattle.std.proofs.shelf.Lists.{joined-more, take-more}
 use Rattle.std.specs.Written.{decimal}
 use Rattle.std.specs.shelf.Lists.{joined}
@@ -32,5 +32,5 @@ pub room :
     length (joined spaced (take i ns)) + 1 + length (decimal (getD ns i 0)) ≤ length (joined spaced ns)
 room ns i h = omega (arith, step-length ns i h, front-le (i + 1) ns)
 
-pub line-length : (word ns : List ℕ) → length (line word ns) ≡ length word + length (joined spaced ns) + 1
+pub line-length : (word ns : List ℕ) → length (line-of word ns) ≡ length word + length (joined spaced ns) + 1
 line-length word ns = simp length-append (omega arith)

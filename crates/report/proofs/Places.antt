@@ -1,14 +1,10 @@
 -- Texts that are put one after the other.
 use Prim.Native.Nat.{ℕ}
 use Rattle.report.specs.Puts.{Put}
-use Rattle.std.proofs.shelf.Lists.{append-nil}
 use lib.ListN.{length-append}
-use mathlib.Core.List.{List, [], _++_, append-assoc}
-use mathlib.Core.Path.{sym, ap, _∙_, refl}
+use mathlib.Core.List.{List, _++_, append-assoc}
+use mathlib.Core.Path.{ap, _∙_}
 use native.Mathlib.Omega.{arith}
-
-pub put-nothing : (at : ℕ) (s : List ℕ) → Put at [] s s at
-put-nothing at s = record { value = omega arith; front = sym (append-nil _); rest = λ k h. refl }
 
 pub put-both :
     {a b d : ℕ} {xs ys s t u : List ℕ} → Put a xs s t b → Put b ys t u d → Put a (xs ++ ys) s u d

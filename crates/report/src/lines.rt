@@ -6,7 +6,7 @@ ghost use Prim.Native.Nat.{_≤_};
 ghost use lib.ListN.{length};
 ghost use Rattle.feasibility.specs.Told.{told};
 ghost use Rattle.report.specs.Limits.{min-space};
-ghost use Rattle.report.specs.Lines.{line, verdict-text, fault-text, tick-text, refusal-text};
+ghost use Rattle.report.specs.Lines.{line-of, verdict-text, fault-text, tick-text, refusal-text};
 ghost use Rattle.report.specs.Writes.{Writes, space-for};
 use crate::put::put_byte;
 use crate::put::put_numbers;
@@ -64,7 +64,7 @@ fn write_short_line(
     third: u32,
 ) -> Result<usize, NoSpace>
     requires { ⌜ length (now word) ≤ 5 ⌝ }
-    ensures { λ r. ⌜ Writes min-space (line (now (word .entry)) (first ∷ second ∷ third ∷ [])) (now (out .entry)) (now (out .exit)) r ⌝ }
+    ensures { λ r. ⌜ Writes min-space (line-of (now (word .entry)) (first ∷ second ∷ third ∷ [])) (now (out .entry)) (now (out .exit)) r ⌝ }
 {
     write_line(
         out,
@@ -73,9 +73,10 @@ fn write_short_line(
     )
 }
 
+// A line, unless the space is below the least or below the line's length.
 fn write_line(out: &mut [u8], word: &[u8], numbers: &[u64]) -> Result<usize, NoSpace>
     requires { ⌜ length (now word) ≤ 7 ⌝ ∗ ⌜ length (now numbers) ≤ 3 ⌝ }
-    ensures { λ r. ⌜ Writes (space-for (line (now (word .entry)) (now (numbers .entry)))) (line (now (word .entry)) (now (numbers .entry))) (now (out .entry)) (now (out .exit)) r ⌝ }
+    ensures { λ r. ⌜ Writes (space-for (line-of (now (word .entry)) (now (numbers .entry)))) (line-of (now (word .entry)) (now (numbers .entry))) (now (out .entry)) (now (out .exit)) r ⌝ }
 {
     if out.len() < MIN_SPACE || out.len() < line_length(word, numbers) {
         return Err(NoSpace);

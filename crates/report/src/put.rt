@@ -1,6 +1,5 @@
-// Bytes, numbers and whole lines, put at a place for which there is room.
+// The parts of a line, put where there is room for them. Each call answers the place after what it put.
 ghost use mathlib.Core.List.{[], _∷_};
-ghost use mathlib.Core.Path.{_≡_};
 ghost use Prim.Native.Nat.{_+_, _<_, _≤_};
 ghost use lib.ListN.{length};
 ghost use Rattle.std.specs.Written.{decimal};

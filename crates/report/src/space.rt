@@ -2,10 +2,10 @@
 ghost use mathlib.Core.Path.{_≡_};
 ghost use Rattle.report.specs.Limits.{no-space-number};
 
-// Every line but that of a made-up verdict fits this many bytes; no call writes into fewer.
+// No line is written into fewer bytes. They hold every line but that of a verdict whose load no table has.
 pub const MIN_SPACE: usize = 40;
 
-// The space is too small, and nothing was written.
+// There is too little space, and nothing was written.
 #[derive(Clone, Copy, PartialEq, Eq, Debug)]
 pub struct NoSpace;
 

@@ -1,4 +1,3 @@
-use Prim.Native.Nat.{ℕ}
 use Rattle.report.proofs.Decimals.{one-more}
 use Rattle.report.proofs.Places.{put-both}
 use Rattle.report.proofs.put.+put_number.Needs as need

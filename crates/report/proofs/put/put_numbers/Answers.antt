@@ -1,13 +1,7 @@
-use Prim.Native.Nat.{ℕ}
 use Rattle.report.proofs.Joins.{joined-step, room}
 use Rattle.report.proofs.Places.{put-both}
 use Rattle.report.proofs.put.put_numbers.Needs as need
-use Rattle.report.specs.Lines.{spaced}
-use Rattle.report.specs.Puts.{Put}
 use Rattle.std.proofs.shelf.Lists.{take-all}
-use Rattle.std.specs.shelf.Lists.{joined}
-use mathlib.Core.List.{List}
-use mathlib.Core.Path.{subst}
 use native.Mathlib.Omega.{arith}
 
 pub put-byte-at-requires : need.put-byte-at-requires
