@@ -1,3 +1,5 @@
 // Tests of the crates, as their users call them.
 #[cfg(test)]
+mod lines;
+#[cfg(test)]
 mod tables;

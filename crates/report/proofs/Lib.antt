@@ -1,0 +1,4 @@
+pub mod Decimals
+pub mod Joins
+pub mod Places
+pub mod Short
