@@ -21,14 +21,14 @@ abbrev pub verdict-text : Told → List ℕ
 verdict-text t =
     line-of (codes "verdict") (cond (eqb (t .number) 0) (0 ∷ []) (t .number ∷ t .first ∷ t .second ∷ []))
 
--- A fault: its number, the line of the input where it is, and the cause.
+-- A fault: its number, the line of the input and the cause.
 abbrev pub fault-text : ℕ → ℕ → ℕ → List ℕ
 fault-text number line cause = line-of (codes "fault") (number ∷ line ∷ cause ∷ [])
 
--- A tick: the clock, the row that got it, and the state.
+-- A tick: the clock, the row and the state.
 abbrev pub tick-text : ℕ → ℕ → ℕ → List ℕ
 tick-text clock row state = line-of (codes "t") (clock ∷ row ∷ state ∷ [])
 
--- A refusal: the time of the request, its row, and the refusal's number.
+-- A refusal: the time, the row and the number of the refusal.
 abbrev pub refusal-text : ℕ → ℕ → ℕ → List ℕ
 refusal-text time row refusal = line-of (codes "no") (time ∷ row ∷ refusal ∷ [])
