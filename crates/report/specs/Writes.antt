@@ -18,6 +18,7 @@ space-for text = max min-space (length text)
 pub record Written (space : ℕ) (text before after : List ℕ) (n : ℕ) : Type 0 where
   pub enough : space ≤ length before
   pub answer : n ≡ length text
+  pub within : n ≤ length before
   pub bytes : take n after ≡ text
   pub rest : Same-from n before after
 

@@ -64,7 +64,3 @@ is-read xs n i end some short digits value =
     (and-from (leb (length xs) 9) (all-digits xs) (le-leb (length xs) 9 short)
     (sym digits ∙ at-drop-all all-digits xs i end))) ∙
     ap Some (sym value ∙ at-drop-all (value-after n) xs i end)
-
--- too few or too many bytes are no number
-pub wrong-length : (xs : List ℕ) → (length xs ≡ 0 → ⊥) → 9 < length xs → number-in xs ≡ None
-wrong-length xs some long = grind (arith, tells)

@@ -47,9 +47,9 @@ module _ (xs : List ℕ) (i : ℕ) where
       ap (λ c. cond c (past-field (drop (i + 1) xs)) (getD xs i 0 ∷ drop (i + 1) xs)) e
 
 module _
-  (xs : List ℕ) (from i : ℕ) (le : from ≤ i)
-  (front : between from i xs ++ front-field (drop i xs) ≡ front-field (drop from xs))
-  (past : past-field (drop i xs) ≡ past-field (drop from xs)) where
+    (xs : List ℕ) (from i : ℕ) (le : from ≤ i)
+    (front : between from i xs ++ front-field (drop i xs) ≡ front-field (drop from xs))
+    (past : past-field (drop i xs) ≡ past-field (drop from xs)) where
   pub field-more :
       i < length xs → in-field (getD xs i 0) ≡ true →
       (between from (i + 1) xs ++ front-field (drop (i + 1) xs) ≡ front-field (drop from xs)) ×
@@ -250,8 +250,8 @@ no-field (b ∷ bs) none = at (no-field bs) (cases-bool (is-space b))
 
 -- the bounds of the next field
 module _
-  (xs : List ℕ) (from start end : ℕ) (skipped : drop start xs ≡ past-spaces (drop from xs))
-  (front : between start end xs ≡ front-field (drop start xs)) (past : drop end xs ≡ past-field (drop start xs)) where
+    (xs : List ℕ) (from start end : ℕ) (skipped : drop start xs ≡ past-spaces (drop from xs))
+    (front : between start end xs ≡ front-field (drop start xs)) (past : drop end xs ≡ past-field (drop start xs)) where
   pub bounds-none :
       start ≡ end → (next-line (drop end xs) ≡ next-line (drop from xs)) × (line-over (drop end xs) ≡ true)
   bounds-none e =

@@ -34,7 +34,7 @@ placed {bs} {e} {e′} {line} {line′} wrong same there =
 
 -- n is the number of rows, as the code has it
 module _
-  (bs : List ℕ) (rows : List Row) (n : ℕ) (r₁ : List ℕ) (begins : Begins-with-rows bs rows r₁) (is : n ≡ length rows) where
+    (bs : List ℕ) (rows : List Row) (n : ℕ) (r₁ : List ℕ) (begins : Begins-with-rows bs rows r₁) (is : n ≡ length rows) where
   pub ticks-wrong :
       {e : LineFault} {line : ℕ} → Wrong-heading (codes "ticks") max-ticks r₁ e → line ≡ n + 2 → First-wrong bs e line
   ticks-wrong wrong there = placed (ticks begins wrong) refl (there ∙ ap (λ k. k + 2) is)
@@ -57,7 +57,7 @@ module _
           arrival with-arrivals (subst (λ k. Arrival-fault k m (k + 4) r₃ e line) is wrong)
 
       module _
-        (xs : List Arrival) (r₄ : List ℕ) (read : Arrivals-read n r₃ xs r₄) (all : length xs ≡ m) where
+          (xs : List Arrival) (r₄ : List ℕ) (read : Arrivals-read n r₃ xs r₄) (all : length xs ≡ m) where
         read-all : Arrivals-read (length rows) r₃ xs r₄
         read-all = subst (λ k. Arrivals-read k r₃ xs r₄) is read
 

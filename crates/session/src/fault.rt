@@ -5,8 +5,8 @@ ghost use Rattle.session.specs.declared.fault.Fault.the-variants.{InLine as in
 ghost use Rattle.session.specs.declared.fault.LineFault.the-variants.{Field as in-field, Row as in-row};
 use crate::field::FieldFault;
 use crate::field::FieldFaultDebug;
-use crate::field::FieldFaultPartialEq;
 use crate::field::FieldFaultEq;
+use crate::field::FieldFaultPartialEq;
 use feasibility::RowRefusal;
 use feasibility::RowRefusalDebug;
 use feasibility::RowRefusalEq;

@@ -24,7 +24,9 @@ use feasibility::DraftRows;
 use feasibility::Table;
 
 const MAX_BYTES: usize = 16_384;
+
 const MAX_TICKS: u32 = 4_096;
+
 const MAX_ARRIVALS: u32 = 256;
 
 #[derive(Clone, Copy)]

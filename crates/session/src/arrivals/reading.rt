@@ -16,20 +16,13 @@ use crate::reader::Reader;
 const MAX_TIME: u32 = 4_095;
 
 impl Arrivals {
-    pub fn new() -> Arrivals
+    pub(crate) fn new() -> Arrivals
         ensures { λ r. ⌜ arrivals-of r ≡ [] ⌝ }
     {
         Arrivals {
             cells: [Arrival { time: 0, row: 0 }; 256],
             count: 0,
         }
-    }
-
-    // How many there are.
-    pub fn count(&self) -> u32
-        ensures { λ r. ⌜ r ≡ length (arrivals-of (now (self .entry))) ⌝ }
-    {
-        self.count
     }
 
     // All of them, in file order.
@@ -61,7 +54,12 @@ fn read_arrival(reader: &mut Reader, rows: u32) -> Result<Arrival, LineFault>
 }
 
 // The arrivals of the next `count` lines, of which the first is line `from`.
-pub(crate) fn read_arrivals(reader: &mut Reader, rows: u32, count: u32, from: u32) -> Result<Arrivals, PlacedFault>
+pub(crate) fn read_arrivals(
+    reader: &mut Reader,
+    rows: u32,
+    count: u32,
+    from: u32,
+) -> Result<Arrivals, PlacedFault>
     requires few { ⌜ count ≤ max-arrivals ⌝ }
     requires early { ⌜ from < 2000000000 ⌝ }
     ensures { λ r. ⌜ Cases r (λ a. Arrivals-read rows (left (now (reader .entry))) (arrivals-of a) (left (now (reader .exit))) × (length (arrivals-of a) ≡ count)) (λ f. Arrival-fault rows count from (left (now (reader .entry))) (f .fault) (f .line)) ⌝ }

@@ -11,8 +11,8 @@ ghost use Rattle.session.specs.Sections.{Limited-heading, Wrong-heading};
 ghost use mathlib.Core.Logic.{_≢_};
 ghost use Prim.Native.Nat.{_<_};
 ghost use Rattle.session.specs.declared.fault.LineFault.the-variants.{Shape};
-use crate::fault::LineFault;
 use crate::fault::FromFieldFault;
+use crate::fault::LineFault;
 use crate::field::Field;
 use crate::field::number;
 use crate::reader::Reader;
@@ -81,7 +81,7 @@ impl<'a> Reader<'a> {
     }
 
     // A line of two numbers.
-    pub fn two_numbers(&mut self) -> Result<(u32, u32), LineFault>
+    pub(crate) fn two_numbers(&mut self) -> Result<(u32, u32), LineFault>
         ensures same { λ r. ⌜ now (now (self .exit) .input) ≡ now (now (self .entry) .input) ⌝ }
         ensures line { λ r. ⌜ Cases r (λ p. Line-of [] (left (now (self .entry))) (p .0 ∷ p .1 ∷ []) (left (now (self .exit)))) (λ e. Wrong-line [] 2 (left (now (self .entry))) e) ⌝ }
     {
@@ -92,7 +92,7 @@ impl<'a> Reader<'a> {
     }
 
     // A line of three numbers.
-    pub fn three_numbers(&mut self) -> Result<(u32, u32, u32), LineFault>
+    pub(crate) fn three_numbers(&mut self) -> Result<(u32, u32, u32), LineFault>
         ensures same { λ r. ⌜ now (now (self .exit) .input) ≡ now (now (self .entry) .input) ⌝ }
         ensures line { λ r. ⌜ Cases r (λ p. Line-of [] (left (now (self .entry))) (p .0 ∷ p .1 ∷ p .2 ∷ []) (left (now (self .exit)))) (λ e. Wrong-line [] 3 (left (now (self .entry))) e) ⌝ }
     {
@@ -104,7 +104,7 @@ impl<'a> Reader<'a> {
     }
 
     // A line of a word and a number.
-    pub fn heading(&mut self, word: &[u8]) -> Result<u32, LineFault>
+    pub(crate) fn heading(&mut self, word: &[u8]) -> Result<u32, LineFault>
         ensures same { λ r. ⌜ now (now (self .exit) .input) ≡ now (now (self .entry) .input) ⌝ }
         ensures line { λ r. ⌜ Cases r (λ n. Line-of (now (word .entry) ∷ []) (left (now (self .entry))) (n ∷ []) (left (now (self .exit))) × (n < 1000000000)) (λ e. Wrong-line (now (word .entry) ∷ []) 1 (left (now (self .entry))) e) ⌝ }
     {
@@ -114,7 +114,7 @@ impl<'a> Reader<'a> {
     }
 
     // A line of a word and a number of at most `max`.
-    pub fn limited_heading(&mut self, word: &[u8], max: u32) -> Result<u32, LineFault>
+    pub(crate) fn limited_heading(&mut self, word: &[u8], max: u32) -> Result<u32, LineFault>
         ensures same { λ r. ⌜ now (now (self .exit) .input) ≡ now (now (self .entry) .input) ⌝ }
         ensures line { λ r. ⌜ Cases r (λ n. Limited-heading (now (word .entry)) max (left (now (self .entry))) n (left (now (self .exit)))) (λ e. Wrong-heading (now (word .entry)) max (left (now (self .entry))) e) ⌝ }
     {
@@ -126,7 +126,7 @@ impl<'a> Reader<'a> {
     }
 
     // The end of the file, after its last line.
-    pub fn end(&mut self) -> Result<(), LineFault>
+    pub(crate) fn end(&mut self) -> Result<(), LineFault>
         ensures { λ r. ⌜ Cases r (λ _. left (now (self .entry)) ≡ []) (λ e. (e ≡ Shape) × (left (now (self .entry)) ≢ [])) ⌝ }
     {
         if self.at == self.input.len() {

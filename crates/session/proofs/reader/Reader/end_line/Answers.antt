@@ -14,7 +14,7 @@ returns-then-self c =
     record {
       same = c .in-rest .ensures tt .same;
       line =
-        (refl, ap (has 0) (sym (line .0)) ∙ ap (λ bs. has 0 (next-line bs)) (drop-all (s .at) (s .input .now) (omega (arith, c .if-self .taken))));
+          (refl, ap (has 0) (sym (line .0)) ∙ ap (λ bs. has 0 (next-line bs)) (drop-all (s .at) (s .input .now) (omega (arith, c .if-self .taken))));
     }
 
 pub returns : need.returns

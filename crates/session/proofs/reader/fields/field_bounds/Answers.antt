@@ -9,8 +9,8 @@ returns c =
     record {
       within = e .ensures .within;
       none =
-        bounds-none xs (c .args .from) (s .result) (e .result) (s .ensures .rest) (e .ensures .front) (e .ensures .rest);
+          bounds-none xs (c .args .from) (s .result) (e .result) (s .ensures .rest) (e .ensures .front) (e .ensures .rest);
       some =
-        bounds-some xs (c .args .from) (s .result) (e .result) (s .ensures .rest) (e .ensures .front) (e .ensures .rest)
-            (e .ensures .within .1);
+          bounds-some xs (c .args .from) (s .result) (e .result) (s .ensures .rest) (e .ensures .front) (e .ensures .rest)
+          (e .ensures .within .1);
     }

@@ -17,7 +17,7 @@ returns-else-goes-on c =
     record {
       within = (c .loop-i .inv .0, c .loop-i .inv .1);
       rest =
-        sym (skip-stop (c .args .input .now) (c .loop-i .i) (c .loop-i-test .taken) is) ∙ c .loop-i .inv .2;
+          sym (skip-stop (c .args .input .now) (c .loop-i .i) (c .loop-i-test .taken) is) ∙ c .loop-i .inv .2;
     }
 
 pub returns-after-loop-i : need.returns-after-loop-i

@@ -11,12 +11,11 @@ use Rattle.session.proofs.Digits.{
   room,
   value-more,
 }
-use Rattle.session.proofs.field.number.Needs as need
-use Rattle.session.proofs.field.number.Needs.{then-byte-lt48·by·then-byte-lt48, then-byte-lt48·by·else-byte-lt48·then-byte-gt57}
+use Rattle.session.proofs.field.value_of.Needs as need
+use Rattle.session.proofs.field.value_of.Needs.{then-byte-lt48·by·then-byte-lt48, then-byte-lt48·by·else-byte-lt48·then-byte-gt57}
 use Rattle.session.specs.Numbers.{value-after}
-use Rattle.std.proofs.shelf.Tests.{eqb-false}
-use lib.ListN.{length, drop, getD}
-use mathlib.Core.Path.{_≡_, sym, ap, _∙_}
+use lib.ListN.{drop, getD}
+use mathlib.Core.Path.{ap, _∙_}
 use native.Mathlib.Omega.{arith}
 
 pub returns-then-byte-lt48 : need.returns-then-byte-lt48
@@ -54,8 +53,7 @@ pub returns : need.returns
 returns c =
     let l = c .loop-byte in
     let xs = c .args .bytes .now in
-    let some = eqb-false (length xs) 0 (sym (c .is-empty .ensures) ∙ c .if-is-empty .left) in (
-      is-read xs (l .value) (l .byte-index) (c .loop-byte-test .left) (omega arith) (c .if-bytes-gt9 .left) (l .inv .2)
-          (l .inv .1),
+    let all = c .loop-byte-test .left in (
+      is-read xs (l .value) (l .byte-index) all (c .pre .some) (c .pre .few) (l .inv .2) (l .inv .1),
       nine (l .value) (l .byte-index) (l .inv .0) (omega arith),
     )

@@ -1,5 +1,5 @@
 use Prim.Native.Nat.{_^_, _<_}
-use Rattle.session.proofs.field.number.Given as given
+use Rattle.session.proofs.field.value_of.Given as given
 use Rattle.session.specs.Numbers.{all-digits, value-after}
 use lib.ListN.{drop}
 use mathlib.Core.Path.{_≡_}
