@@ -2,4 +2,6 @@
 #[cfg(test)]
 mod lines;
 #[cfg(test)]
+mod sessions;
+#[cfg(test)]
 mod tables;
