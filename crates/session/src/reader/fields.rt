@@ -1,5 +1,6 @@
 // The fields of a line, one after another.
 ghost use mathlib.Core.Bool.{true};
+ghost use mathlib.Core.List.{[]};
 ghost use mathlib.Core.Path.{_≡_};
 ghost use Prim.Native.Nat.{_≤_, _<_};
 ghost use lib.ListN.{length, drop};
@@ -21,6 +22,8 @@ impl<'a> Reader<'a> {
 
     // The next field of the line, with its place, or none where the line has no more.
     pub fn next_field(&mut self) -> Option<Field<'a>>
+        ensures field { λ r. ⌜ Cases r (front-field (past-spaces (left (now (self .entry)))) ≡ []) (λ f. now (f .bytes) ≡ front-field (past-spaces (left (now (self .entry))))) ⌝ }
+        ensures rest { λ r. ⌜ left (now (self .exit)) ≡ past-field (past-spaces (left (now (self .entry)))) ⌝ }
         ensures same { λ r. ⌜ now (now (self .exit) .input) ≡ now (now (self .entry) .input) ⌝ }
         ensures line { λ r. ⌜ Cases r ((next-line (left (now (self .exit))) ≡ next-line (left (now (self .entry)))) × (line-over (left (now (self .exit))) ≡ true)) (λ f. next-line (left (now (self .entry))) ≡ with-field (now (f .bytes)) (next-line (left (now (self .exit))))) ⌝ }
         ensures place { λ r. ⌜ Cases r (Unit {0}) (λ f. now (f .bytes) ≡ between (f .at) (now (self .exit) .at) (now (now (self .entry) .input))) ⌝ }
@@ -42,6 +45,9 @@ impl<'a> Reader<'a> {
 fn field_bounds(input: &[u8], from: usize) -> (usize, usize)
     requires { ⌜ from ≤ length (now input) ⌝ }
     ensures within { λ r. ⌜ (r .0 ≤ r .1) × (r .1 ≤ length (now (input .entry))) ⌝ }
+    ensures front { λ r. ⌜ between (r .0) (r .1) (now (input .entry)) ≡ front-field (past-spaces (drop from (now (input .entry)))) ⌝ }
+    ensures empty { λ r. ⌜ (r .0 ≡ r .1 → front-field (past-spaces (drop from (now (input .entry)))) ≡ []) ⌝ }
+    ensures rest { λ r. ⌜ drop (r .1) (now (input .entry)) ≡ past-field (past-spaces (drop from (now (input .entry)))) ⌝ }
     ensures none { λ r. ⌜ (r .0 ≡ r .1 → (next-line (drop (r .1) (now (input .entry))) ≡ next-line (drop from (now (input .entry)))) × (line-over (drop (r .1) (now (input .entry))) ≡ true)) ⌝ }
     ensures some { λ r. ⌜ (r .0 < r .1 → next-line (drop from (now (input .entry))) ≡ with-field (between (r .0) (r .1) (now (input .entry))) (next-line (drop (r .1) (now (input .entry))))) ⌝ }
 {
