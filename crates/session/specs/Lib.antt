@@ -1,5 +1,6 @@
 pub mod Bytes
 pub mod Faults
+pub mod Laws
 pub mod Limits
 pub mod LineKinds
 pub mod Lines

@@ -4,6 +4,7 @@ pub mod arrivals;
 pub mod bytes;
 pub mod fault;
 pub mod field;
+pub mod laws;
 pub mod reader;
 mod rows;
 pub mod session;
