@@ -1,4 +1,5 @@
 pub mod Digits
+pub mod OneAnswer
 pub mod Scanning
 pub mod Shapes
 pub mod Wrong

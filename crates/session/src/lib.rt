@@ -5,6 +5,7 @@ mod bytes;
 mod fault;
 mod field;
 pub mod host;
+pub mod laws;
 mod reader;
 mod rows;
 mod session;

@@ -14,7 +14,7 @@ returns c =
     record {
       front = front;
       empty =
-        λ same. sym front ∙ ap (λ i. between (s .result) i xs) (sym same) ∙ between-none xs (s .result);
+          λ same. sym front ∙ ap (λ i. between (s .result) i xs) (sym same) ∙ between-none xs (s .result);
       rest = e .ensures .rest ∙ ap past-field (s .ensures .rest);
       within = e .ensures .within;
       none =
