@@ -50,7 +50,7 @@ abbrev pub has : ℕ → Option (List (List ℕ) × List ℕ) → Bool
 has n None = false
 has n (Some p) = eqb (length (p .0)) n
 
--- A line without fields, or none; and a line o with one field more than o′. No line of a session has more than three.
+-- A line has not 1, 2 or 3 fields, the numbers that a session's lines have; a line o has one field more than o′.
 abbrev pub No-field : Option (List (List ℕ) × List ℕ) → Type 0
 No-field o = (has 1 o ≡ false) × (has 2 o ≡ false) × (has 3 o ≡ false)
 

@@ -82,7 +82,7 @@ const HEADINGS: [Case<'static>; 18] = [
     (b"\xff\xfe\n", (24, 1, 0)),
 ];
 
-const ROWS: [Case<'static>; 14] = [
+const ROWS: [Case<'static>; 19] = [
     (b"rows 1\n", (24, 2, 0)),
     (b"rows 1\n1 4 0", (24, 2, 0)),
     (b"rows 1\n1 4\n", (24, 2, 0)),
@@ -97,9 +97,23 @@ const ROWS: [Case<'static>; 14] = [
     (b"rows 2\n1 31623 0\n1 31624 0\n", (25, 3, 5)),
     (b"rows 2\n5 4 0\n1 x 0\n", (25, 2, 1)),
     (b"rows 2\n1 4 0\n1 x 0\n", (23, 3, 0)),
+    (
+        b"rows 3\n1 4 0\n1 x 0\n1 4 0\nticks 0\narrivals 0\n",
+        (23, 3, 0),
+    ),
+    (
+        b"rows 3\n1 4 0\n1 4\n1 4 0\nticks 0\narrivals 0\n",
+        (24, 3, 0),
+    ),
+    (
+        b"rows 3\n1 4 0\n1 0 0\n1 4 0\nticks 0\narrivals 0\n",
+        (25, 3, 2),
+    ),
+    (b"rows 1\n1 999999999 0\n", (25, 2, 2)),
+    (b"rows 1\n1 4 \xff\n", (23, 2, 0)),
 ];
 
-const REST: [Case<'static>; 18] = [
+const REST: [Case<'static>; 26] = [
     (b"rows 1\n1 4 0\n", (24, 3, 0)),
     (b"rows 1\n1 4 0\nticks\n", (24, 3, 0)),
     (b"rows 0\ntick 1\n", (24, 2, 0)),
@@ -121,6 +135,26 @@ const REST: [Case<'static>; 18] = [
     (b"rows 1\n1 4 0\nticks 7\narrivals 2\n0 1\n0 1", (24, 6, 0)),
     (b"rows 0\nticks 0\narrivals 0\n\n", (24, 4, 0)),
     (b"rows 1\n1 4 0\nticks 0\narrivals 1\n0 1\n ", (24, 6, 0)),
+    (
+        b"rows 1\n1 4 0\nticks 7\narrivals 3\n0 1\n0 x\n0 1\n",
+        (23, 6, 0),
+    ),
+    (
+        b"rows 1\n1 4 0\nticks 7\narrivals 3\n0 1\n0\n0 1\n",
+        (24, 6, 0),
+    ),
+    (
+        b"rows 1\n1 4 0\nticks 7\narrivals 3\n0 1\n0 9\n0 1\n",
+        (26, 6, 0),
+    ),
+    (
+        b"rows 1\n1 4 0\nticks 7\narrivals 2\n0 1\n5000 1\n",
+        (26, 6, 0),
+    ),
+    (b"rows 1\n1 4 0\nticks 7\narrivals 1\n4096 x\n", (23, 5, 0)),
+    (b"rows 0\nticks 4097 1\n", (24, 2, 0)),
+    (b"rows 0\nticks 999999999\n", (26, 2, 0)),
+    (b"rows 0\nticks 0\narrivals 0", (24, 3, 0)),
 ];
 
 fn check_all(cases: &[Case]) -> Result<(), Fail> {

@@ -15,14 +15,16 @@ use crate::reader::Reader;
 
 impl<'a> Reader<'a> {
     pub fn new(input: &'a [u8]) -> Reader<'a>
-        ensures { λ r. ⌜ left r ≡ now (input .entry) ⌝ }
+        ensures input { λ r. ⌜ now (r .input) ≡ now (input .entry) ⌝ }
+        ensures at { λ r. ⌜ r .at ≡ 0 ⌝ }
+        ensures left { λ r. ⌜ left r ≡ now (input .entry) ⌝ }
     {
         Reader { input, at: 0 }
     }
 
     // The next field of the line, with its place, or none where the line has no more.
     pub fn next_field(&mut self) -> Option<Field<'a>>
-        ensures field { λ r. ⌜ Cases r (front-field (past-spaces (left (now (self .entry)))) ≡ []) (λ f. now (f .bytes) ≡ front-field (past-spaces (left (now (self .entry))))) ⌝ }
+        ensures field { λ r. ⌜ Cases r (front-field (past-spaces (left (now (self .entry)))) ≡ []) (λ f. (now (f .bytes) ≡ front-field (past-spaces (left (now (self .entry))))) × (0 < length (now (f .bytes)))) ⌝ }
         ensures rest { λ r. ⌜ left (now (self .exit)) ≡ past-field (past-spaces (left (now (self .entry)))) ⌝ }
         ensures same { λ r. ⌜ now (now (self .exit) .input) ≡ now (now (self .entry) .input) ⌝ }
         ensures line { λ r. ⌜ Cases r ((next-line (left (now (self .exit))) ≡ next-line (left (now (self .entry)))) × (line-over (left (now (self .exit))) ≡ true)) (λ f. next-line (left (now (self .entry))) ≡ with-field (now (f .bytes)) (next-line (left (now (self .exit))))) ⌝ }
@@ -46,6 +48,7 @@ fn field_bounds(input: &[u8], from: usize) -> (usize, usize)
     requires { ⌜ from ≤ length (now input) ⌝ }
     ensures within { λ r. ⌜ (r .0 ≤ r .1) × (r .1 ≤ length (now (input .entry))) ⌝ }
     ensures front { λ r. ⌜ between (r .0) (r .1) (now (input .entry)) ≡ front-field (past-spaces (drop from (now (input .entry)))) ⌝ }
+    ensures long { λ r. ⌜ (r .0 < r .1 → 0 < length (between (r .0) (r .1) (now (input .entry)))) ⌝ }
     ensures empty { λ r. ⌜ (r .0 ≡ r .1 → front-field (past-spaces (drop from (now (input .entry)))) ≡ []) ⌝ }
     ensures rest { λ r. ⌜ drop (r .1) (now (input .entry)) ≡ past-field (past-spaces (drop from (now (input .entry)))) ⌝ }
     ensures none { λ r. ⌜ (r .0 ≡ r .1 → (next-line (drop (r .1) (now (input .entry))) ≡ next-line (drop from (now (input .entry)))) × (line-over (drop (r .1) (now (input .entry))) ≡ true)) ⌝ }

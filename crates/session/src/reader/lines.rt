@@ -126,7 +126,7 @@ impl<'a> Reader<'a> {
     }
 
     // The end of the file, after its last line.
-    pub(crate) fn end(&mut self) -> Result<(), LineFault>
+    pub(crate) fn end(&self) -> Result<(), LineFault>
         ensures { λ r. ⌜ Cases r (λ _. left (now (self .entry)) ≡ []) (λ e. (e ≡ Shape) × (left (now (self .entry)) ≢ [])) ⌝ }
     {
         if self.at == self.input.len() {

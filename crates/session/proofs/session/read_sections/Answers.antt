@@ -12,7 +12,7 @@ returns-in-Break-draft c =
     let p = err-from-errBy (c .from-residual .result) (c .from-residual .ensures .1) in
     let f = c .in-Break-draft .field-0 .0 in
     rw (p .1, p .2)
-    (subst (λ bs. First-wrong bs (f .fault) (f .line)) (c .new-reader .ensures) (c .in-Break-draft .ensures tt))
+    (subst (λ bs. First-wrong bs (f .fault) (f .line)) (c .new-reader .ensures .left) (c .in-Break-draft .ensures tt))
 
 pub returns-in-Break-ticks : need.returns-in-Break-ticks
 returns-in-Break-ticks c =
@@ -20,7 +20,7 @@ returns-in-Break-ticks c =
     let rows = rows-of (c .in-Continue-draft .draft .rows) in
     let r₁ = left (c .read-table .last .reader) in
     let begins
-    = subst (λ bs. Begins-with-rows bs rows r₁) (c .new-reader .ensures) (c .in-Continue-draft .ensures tt) in
+    = subst (λ bs. Begins-with-rows bs rows r₁) (c .new-reader .ensures .left) (c .in-Continue-draft .ensures tt) in
     let n = c .count-rows .result in
     let is = c .count-rows .ensures ∙ ap (λ d. length (rows-of d)) (c .deref .ensures) in
     let wrong = c .in-Break-ticks .ensures tt in
@@ -32,7 +32,7 @@ returns-in-Break-count c =
     let rows = rows-of (c .in-Continue-draft .draft .rows) in
     let r₁ = left (c .read-table .last .reader) in
     let begins
-    = subst (λ bs. Begins-with-rows bs rows r₁) (c .new-reader .ensures) (c .in-Continue-draft .ensures tt) in
+    = subst (λ bs. Begins-with-rows bs rows r₁) (c .new-reader .ensures .left) (c .in-Continue-draft .ensures tt) in
     let n = c .count-rows .result in
     let is = c .count-rows .ensures ∙ ap (λ d. length (rows-of d)) (c .deref .ensures) in
     let r₂ = left (c .read-heading .last .reader) in
@@ -47,7 +47,7 @@ returns-in-Break-arrivals c =
     let rows = rows-of (c .in-Continue-draft .draft .rows) in
     let r₁ = left (c .read-table .last .reader) in
     let begins
-    = subst (λ bs. Begins-with-rows bs rows r₁) (c .new-reader .ensures) (c .in-Continue-draft .ensures tt) in
+    = subst (λ bs. Begins-with-rows bs rows r₁) (c .new-reader .ensures .left) (c .in-Continue-draft .ensures tt) in
     let n = c .count-rows .result in
     let is = c .count-rows .ensures ∙ ap (λ d. length (rows-of d)) (c .deref .ensures) in
     let r₂ = left (c .read-heading .last .reader) in
@@ -64,7 +64,7 @@ returns-in-Break-read-end c =
     let rows = rows-of (c .in-Continue-draft .draft .rows) in
     let r₁ = left (c .read-table .last .reader) in
     let begins
-    = subst (λ bs. Begins-with-rows bs rows r₁) (c .new-reader .ensures) (c .in-Continue-draft .ensures tt) in
+    = subst (λ bs. Begins-with-rows bs rows r₁) (c .new-reader .ensures .left) (c .in-Continue-draft .ensures tt) in
     let n = c .count-rows .result in
     let is = c .count-rows .ensures ∙ ap (λ d. length (rows-of d)) (c .deref .ensures) in
     let r₂ = left (c .read-heading .last .reader) in
@@ -83,7 +83,7 @@ returns c =
     let rows = rows-of (c .in-Continue-draft .draft .rows) in
     let r₁ = left (c .read-table .last .reader) in
     let begins
-    = subst (λ bs. Begins-with-rows bs rows r₁) (c .new-reader .ensures) (c .in-Continue-draft .ensures tt) in
+    = subst (λ bs. Begins-with-rows bs rows r₁) (c .new-reader .ensures .left) (c .in-Continue-draft .ensures tt) in
     let n = c .count-rows .result in
     let is = c .count-rows .ensures ∙ ap (λ d. length (rows-of d)) (c .deref .ensures) in
     let r₂ = left (c .read-heading .last .reader) in
