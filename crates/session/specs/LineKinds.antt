@@ -23,12 +23,12 @@ pub record Line-of (words : List (List ℕ)) (bs ns rest : List ℕ) : Type 0 wh
   pub line : next-line bs ≡ Some (words ++ fields, rest)
   pub numbers : Are-numbers fields ns
 
--- It is no line of these words and n fields more.
+-- The first line of bs, if there is one, is not these words and n fields more.
 abbrev pub Misshapen : List (List ℕ) → ℕ → List ℕ → Type 0
 Misshapen words n bs =
     (fields : List (List ℕ)) (rest : List ℕ) → next-line bs ≡ Some (words ++ fields, rest) → length fields ≢ n
 
--- It is one, and not all of these fields are numbers.
+-- The first line of bs is these words and n fields more, and not all of these fields are numbers.
 pub record No-numbers (words : List (List ℕ)) (n : ℕ) (bs : List ℕ) : Type 0 where
   pub fields : List (List ℕ)
   pub rest : List ℕ

@@ -18,7 +18,8 @@ abbrev pub first-line : List ℕ → Option (List ℕ × List ℕ)
 first-line [] = None
 first-line (b ∷ bs) = cond (is-feed b) (Some ([], bs)) (with-byte b (first-line bs))
 
--- The fields of a line: the bytes that are no spaces, neighbours in one field.
+-- The fields of a line: the bytes that are no spaces, neighbours in one field. Read from the right: a byte that is no
+-- space goes to the front of the field that follows it, or begins a field where a space or the line's end follows.
 abbrev pub ends-field : List ℕ → Bool
 ends-field [] = true
 ends-field (b ∷ bs) = is-space b

@@ -1,4 +1,5 @@
--- The bytes that are left, cut at the next field.
+-- The bytes that a reader has left, cut at the next field. What this has to do with lines and their fields is said by
+-- the clause `line` of `Reader::next_field`.
 use Prim.Native.Nat.{ℕ}
 use Rattle.session.specs.Bytes.{is-space, is-feed, in-field}
 use mathlib.Core.Bool.{Bool, true, cond}

@@ -27,7 +27,7 @@ pub record Row-line (rows : List Row) (bs : List ℕ) (rows′ : List Row) (rest
   pub line : Line-of [] bs (cost ∷ period ∷ store ∷ []) rest
   pub taken : Taken rows (row-of cost period store) rows′ hyperperiod
 
--- It is three numbers, and the table refuses the row for this cause.
+-- The first line of bs is three numbers, and the table refuses the row that they are for this cause.
 pub record Refused-row (rows : List Row) (bs : List ℕ) (e : RowRefusal) : Type 0 where
   pub cost : ℕ
   pub period : ℕ
