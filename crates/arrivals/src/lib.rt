@@ -1,4 +1,6 @@
 // The arrivals of a session that are still to come, in the order in which they are released.
+#![tactic(auto)]
+
 mod coming;
 mod order;
 

@@ -1,4 +1,6 @@
 // The job table and the exact verdict on it.
+#![tactic(auto)]
+
 mod divisors;
 mod draft;
 pub mod laws;

@@ -1,4 +1,6 @@
 // The lines of session files: their fields with places, numbers, and what can be wrong with a line.
+#![tactic(auto)]
+
 mod bytes;
 mod fault;
 mod field;

@@ -1,4 +1,6 @@
 // A heap queue in cells that the caller lends, for every kind of element that has a lawful order.
+#![tactic(auto)]
+
 mod cells;
 mod full;
 mod order;

@@ -1,4 +1,6 @@
 // Ready lists: the unfinished jobs in the order in which they are to be served.
+#![tactic(auto)]
+
 mod entry;
 mod flat;
 mod heap;

@@ -1,5 +1,7 @@
 // Reads a session from standard input and prints the verdict on its table and its run tick by tick, or the fault in the
 // file.
+#![tactic(auto)]
+
 ghost use Rattle.std.specs.Prelude.{◌≤◌, length, IfOk};
 
 use report::{MIN_SPACE, fault_line, verdict_line};

@@ -1,4 +1,6 @@
 // The lines that a session prints, each written into the caller's bytes.
+#![tactic(auto)]
+
 mod lines;
 mod put;
 mod space;

@@ -1,4 +1,6 @@
 // Session files: a reader that names every fault, and one call for a host in C.
+#![tactic(auto)]
+
 mod arrival;
 mod arrivals;
 mod fault;

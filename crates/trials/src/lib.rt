@@ -1,4 +1,6 @@
 // Tests of the crates, as their users call them.
+#![tactic(auto)]
+
 #[cfg(test)]
 mod dispatchers;
 #[cfg(test)]

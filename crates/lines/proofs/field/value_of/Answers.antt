@@ -24,11 +24,11 @@ returns-then-byte-lt48 c =
           none (digit_high _ w.if-byte-gt57.true) c.loop-byte.invariant.2
     ]
 
-pub overflow-mul-value : goal.overflow-mul-value
-overflow-mul-value c = omega (arith, room c.loop-byte.value c.loop-byte.byte-index c.loop-byte.invariant.0 (omega arith))
+pub overflow_mul-value : goal.overflow_mul-value
+overflow_mul-value c = omega (arith, room c.loop-byte.value c.loop-byte.byte-index c.loop-byte.invariant.0 (omega arith))
 
-pub overflow-add-value : goal.overflow-add-value
-overflow-add-value c =
+pub overflow_add-value : goal.overflow_add-value
+overflow_add-value c =
     omega (
       arith,
       c.from.ensures,

@@ -6,15 +6,15 @@ use Rattle.ready.proofs.rows.cell_of.Goals as goal
 use Rattle.ready.specs.ByRow.{row_at}
 
 pub loop-cell-preserved : goal.loop-cell-preserved
-loop-cell-preserved c = below_more _ _ c.loop-cell.invariant (other_number _ _ c.if-is-of.ensures)
+loop-cell-preserved c = below_more _ _ c.loop-cell.invariant (other_number _ _ c.if-is_of.ensures)
 
-pub returns-then-is-of : goal.returns-then-is-of
-returns-then-is-of c =
+pub returns-then-is_of : goal.returns-then-is_of
+returns-then-is_of c =
     let es = contents c.args.queue.now in
     let row = c.args.row in
     let cell = c.loop-cell.cell in
     let within : cell < length es = omega arith in
-    let is = same_number (row_at es cell) row c.if-is-of.ensures in
+    let is = same_number (row_at es cell) row c.if-is_of.ensures in
     record { within = within; is = is; has = has_is es row c.requires ∙ seen es row cell within is }
 
 pub returns : goal.returns

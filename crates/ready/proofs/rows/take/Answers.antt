@@ -10,10 +10,10 @@ use Rattle.std.proofs.lemmas.List.Sorted.{length_permutation}
 pub returns : goal.returns
 returns c =
     let q = c.args.queue.now in
-    let q' = c.take-at.new.self in
+    let q' = c.take_at.new.self in
     let t =
-    taken q q' c.args.cell c.take-at.result c.requires.within c.take-at.ensures.answer
-    c.take-at.ensures.contents in
+    taken q q' c.args.cell c.take_at.result c.requires.within c.take_at.ensures.answer
+    c.take_at.ensures.contents in
     let less = t.2.less in
     let once = once_shuffled (contents q) (t.0 ∷ contents q') less c.requires.once in
     record {
@@ -24,5 +24,5 @@ returns c =
       count = omega (arith, length_permutation (contents q) (t.0 ∷ contents q') less);
       cells = t.2.kept.number;
       once = tail_once t.0 (contents q') once;
-      heaped = c.take-at.ensures.order c.requires.heaped;
+      heaped = c.take_at.ensures.order c.requires.heaped;
     }

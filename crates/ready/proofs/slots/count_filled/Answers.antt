@@ -1,6 +1,6 @@
 use Rattle.ready.proofs.Counts.{filled_some, filled_none}
 use Rattle.ready.proofs.slots.count_filled.Goals as goal
-use Rattle.ready.proofs.slots.count_filled.Goals.{in-Some, in-default}
+use Rattle.ready.proofs.slots.count_filled.Goals.{in-Some, in_default}
 use Rattle.ready.specs.Entries.{filled}
 use Rattle.std.proofs.lemmas.List.{at_drop_all}
 use Rattle.std.proofs.Common.{arith}
@@ -11,7 +11,7 @@ loop-slot-preserved c =
     let same = filled_none c.args.slots.now c.loop-slot.slot-index c.loop-slot-test.true in
     elim c.match-slot.branch [
       | in-Some w ↦ omega (arith, w.count-is, more _ w.in-Some.is)
-      | in-default w ↦ omega (arith, w.count-is, same w.in-default.is)
+      | in_default w ↦ omega (arith, w.count-is, same w.in_default.is)
     ]
 
 pub returns : goal.returns

@@ -6,4 +6,4 @@ pub returns : goal.returns
 returns c =
     let fits = short_line c.args.word.now c.args.first c.args.second c.args.third in
     rw (c.from.ensures, c.from-2.ensures, c.from-3.ensures, fits c.requires (omega arith) (omega arith) (omega arith))
-    at c.write-line.ensures
+    at c.write_line.ensures

@@ -6,12 +6,12 @@ use Rattle.std.proofs.lemmas.List.{take_all}
 use Rattle.report.specs.Lines.{spaced}
 use Rattle.std.specs.List.{flat_map}
 
-pub overflow-add-total-in-loop-n : goal.overflow-add-total-in-loop-n
-overflow-add-total-in-loop-n c =
+pub overflow_add-total-in-loop-n : goal.overflow_add-total-in-loop-n
+overflow_add-total-in-loop-n c =
     omega (arith, at_most_twenty (get_or c.args.numbers.now c.loop-n.n-index 0) (omega arith))
 
-pub overflow-add-total-in-loop-n-2 : goal.overflow-add-total-in-loop-n-2
-overflow-add-total-in-loop-n-2 c =
+pub overflow_add-total-in-loop-n-2 : goal.overflow_add-total-in-loop-n-2
+overflow_add-total-in-loop-n-2 c =
     omega (arith, at_most_twenty (get_or c.args.numbers.now c.loop-n.n-index 0) (omega arith))
 
 pub loop-n-preserved : goal.loop-n-preserved

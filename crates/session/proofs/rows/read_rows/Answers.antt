@@ -12,5 +12,5 @@ loop-i-init c =
 
 pub loop-i-preserved : goal.loop-i-preserved
 loop-i-preserved c =
-    let line = rw c.in-ok-placed.ensures at c.read-row.ensures in
+    let line = rw c.in_ok-placed.ensures at c.read_row.ensures in
     (more c.loop-i.invariant.0 line, omega (arith, c.loop-i.invariant.1, row_more line))

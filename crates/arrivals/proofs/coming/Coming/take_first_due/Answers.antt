@@ -9,10 +9,10 @@ pub returns-in-Some : goal.returns-in-Some
 returns-in-Some c =
     let before = c.args.self.now in
     let x = c.in-Some.first in
-    let is : First earlier (contents before) x = rw c.in-Some.is at c.take-first.ensures.answer in
+    let is : First earlier (contents before) x = rw c.in-Some.is at c.take_first.ensures.answer in
     let all = is.least before.heaped in
     record {
       due = first_due c.args.clock x (contents before) c.requires all;
       first = all;
-      taken = rw c.in-Some.is at c.take-first.ensures.contents;
+      taken = rw c.in-Some.is at c.take_first.ensures.contents;
     }

@@ -6,14 +6,14 @@ use Rattle.feasibility.specs.Contents.{rows_of}
 pub returns-then-hyperperiod : goal.returns-then-hyperperiod
 returns-then-hyperperiod c =
     let s = c.args.self.now in
-    let lcm = c.least-common-multiple-hyperperiod in
+    let lcm = c.least_common_multiple-hyperperiod in
     let whole = hyperperiod_push (rows_of s) c.args.row s.hyperperiod lcm.result s.exact lcm.ensures in
     (refl, λ m pos common. omega (arith, whole.2 m pos common))
 
 pub returns : goal.returns
 returns c =
     let s = c.args.self.now in
-    let lcm = c.least-common-multiple-hyperperiod in (
+    let lcm = c.least_common_multiple-hyperperiod in (
       hyperperiod_push (rows_of s) c.args.row s.hyperperiod lcm.result s.exact lcm.ensures,
       c.if-hyperperiod.false,
     )

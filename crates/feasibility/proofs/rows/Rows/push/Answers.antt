@@ -5,8 +5,8 @@ use Rattle.feasibility.specs.Tables.{Sound, Hyperperiod, least_period}
 use Rattle.std.proofs.lemmas.List.{length_push}
 use Rattle.std.proofs.Common.{length, sym, ap, ◌∙◌, subst, arith}
 
-pub invariant-of-self : goal.invariant-of-self
-invariant-of-self c =
+pub invariant_of-self : goal.invariant_of-self
+invariant_of-self c =
     let s = c.args.self.now in
     let x = c.args.row in
     let rows = rows_after s.cells c.place.new.cells s.count x (omega arith) c.place.ensures in (
@@ -19,7 +19,7 @@ invariant-of-self c =
             subst (λ xs. Hyperperiod xs c.args.hyperperiod) (sym rows) c.requires.exact,
             (
               c.requires.within,
-              (λ r l. c.note-period.ensures (rows_of s) s.shortest r l ∙ ap (λ xs. least_period xs r) (sym rows), tt),
+              (λ r l. c.note_period.ensures (rows_of s) s.shortest r l ∙ ap (λ xs. least_period xs r) (sym rows), tt),
             ),
           ),
         ),

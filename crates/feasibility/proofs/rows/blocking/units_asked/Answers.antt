@@ -9,8 +9,8 @@ loop-row-preserved c = (
   omega (
     arith,
     c.loop-row.invariant.0,
-    c.demand-of-sum.ensures.value,
+    c.demand_of-sum.ensures.value,
     sum_more c.loop-row.row-index (λ j. demand (row_at c.args.rows.now j) c.args.span),
   ),
-  omega (arith, c.loop-row.invariant.1, c.demand-of-sum.ensures.bound),
+  omega (arith, c.loop-row.invariant.1, c.demand_of-sum.ensures.bound),
 )

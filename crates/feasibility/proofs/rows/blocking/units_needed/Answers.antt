@@ -12,4 +12,4 @@ returns c =
     let l = c.args.span in
     let asked : ℕ → ℕ = λ j. demand (row_at rows j) (l - 1) in
     let none = demand_none (row_at rows i) (l - 1) (omega (arith, c.requires.below)) in
-    omega (arith, c.units-asked.ensures.value, none, sum_split (length rows) i asked c.requires.within)
+    omega (arith, c.units_asked.ensures.value, none, sum_split (length rows) i asked c.requires.within)

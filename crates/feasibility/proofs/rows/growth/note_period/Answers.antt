@@ -6,4 +6,4 @@ pub returns : goal.returns
 returns c rows known r l =
     let least = c.args.least.now in
     let x = c.args.row in
-    ap (λ p. get_or (set least x.store p) r 0) c.lower-of.ensures ∙ least_with least rows x known (omega arith) r l
+    ap (λ p. get_or (set least x.store p) r 0) c.lower_of.ensures ∙ least_with least rows x known (omega arith) r l

@@ -8,8 +8,8 @@ use native.Mathlib.Nat.{mul-div-le}
 share-le : (x : Row) (h : ℕ) → Limited x → share x h ≤ h
 share-le x h limited = omega (arith, mul-le-mul_right (h / x.period) limited.1, mul-div-le h x.period)
 
-pub overflow-mul-result : goal.overflow-mul-result
-overflow-mul-result c = omega (arith, share-le c.args.row c.args.hyperperiod c.requires)
+pub overflow_mul-result : goal.overflow_mul-result
+overflow_mul-result c = omega (arith, share-le c.args.row c.args.hyperperiod c.requires)
 
 pub returns : goal.returns
 returns c = record { value = refl; bound = share-le c.args.row c.args.hyperperiod c.requires }

@@ -11,10 +11,10 @@ loop-row-preserved c = (
     arith,
     c.loop-row.invariant.0,
     c.from-sum.ensures,
-    c.share-of.ensures.value,
+    c.share_of.ensures.value,
     sum_more c.loop-row.row-index (λ j. share (row_at c.args.rows.now j) c.args.hyperperiod),
   ),
-  omega (arith, c.loop-row.invariant.1, c.from-sum.ensures, c.share-of.ensures.bound),
+  omega (arith, c.loop-row.invariant.1, c.from-sum.ensures, c.share_of.ensures.bound),
 )
 
 pub returns : goal.returns

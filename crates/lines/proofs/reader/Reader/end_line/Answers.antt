@@ -11,12 +11,12 @@ returns-in-Some c =
     record {
       same = told.same;
       line =
-          (refl, ap (has 0) (line_field bs told.place) ∙ has_none _ (next_line (drop c.next-field.new.self.at bs)));
+          (refl, ap (has 0) (line_field bs told.place) ∙ has_none _ (next_line (drop c.next_field.new.self.at bs)));
     }
 
 pub returns-then-self : goal.returns-then-self
 returns-then-self c =
-    let told = c.in-default.ensures in
+    let told = c.in_default.ensures in
     record {
       same = told.same;
       line = (
@@ -29,8 +29,8 @@ returns-then-self c =
 
 pub returns : goal.returns
 returns c =
-    let told = c.in-default.ensures in
-    let t = c.next-field.new.self in
+    let told = c.in_default.ensures in
+    let t = c.next_field.new.self in
     record {
       same = told.same;
       line =

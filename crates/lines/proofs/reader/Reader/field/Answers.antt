@@ -9,7 +9,7 @@ pub returns-in-Some : goal.returns-in-Some
 returns-in-Some c =
     let told = c.in-Some.ensures in
     let f = c.in-Some.field.bytes.now in
-    let t = c.next-field.new.self in
+    let t = c.next_field.new.self in
     let line
     = line_field c.args.self.now.input.now told.place ∙
     ap (λ bs. with_field f (next_line (drop t.at bs))) (sym told.same) in

@@ -15,10 +15,10 @@ loop-i-init c =
 
 pub loop-i-preserved : goal.loop-i-preserved
 loop-i-preserved c =
-    let a = c.in-ok-arrival.arrival in
-    let line = rw c.in-ok-arrival.ensures at c.read-arrival.ensures in
+    let a = c.in_ok-arrival.arrival in
+    let line = rw c.in_ok-arrival.ensures at c.read_arrival.ensures in
     let bs = left c.args.reader.now in
-    let rest = left c.read-arrival.new.reader in (
+    let rest = left c.read_arrival.new.reader in (
       subst (λ xs. ArrivalsRead c.args.rows bs xs rest) (sym c.push.ensures)
           (more a.time a.row c.loop-i.invariant.0 line),
       omega (
