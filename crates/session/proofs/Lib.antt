@@ -1,4 +1,5 @@
+pub mod Digits
 pub mod OneAnswer
-pub mod SomeAnswer
-pub mod Taking
+pub mod Scanning
+pub mod Shapes
 pub mod Wrong

@@ -1,7 +1,12 @@
+pub mod Bytes
 pub mod Faults
 pub mod Hosts
 pub mod Laws
 pub mod Limits
+pub mod LineKinds
+pub mod Lines
+pub mod Numbers
 pub mod Reading
+pub mod Scans
 pub mod Sections
 pub mod Sessions

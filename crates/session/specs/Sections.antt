@@ -5,10 +5,10 @@ use Rattle.feasibility.specs.Refusals.{refusal_number}
 use Rattle.feasibility.specs.declared.row.Row.{Row}
 use Rattle.feasibility.specs.declared.row.RowRefusal.{RowRefusal}
 use Rattle.session.specs.Limits.{max_time}
-use Rattle.lines.specs.LineKinds.{LineOf, WrongLine}
+use Rattle.session.specs.LineKinds.{LineOf, WrongLine}
 use Rattle.session.specs.declared.arrival.Arrival.{Arrival}
-use Rattle.lines.specs.declared.fault.LineFault.{LineFault}
-use Rattle.lines.specs.declared.fault.LineFault.TheVariants.{Shape, Field, Row as InRow, Limit}
+use Rattle.session.specs.declared.fault.LineFault.{LineFault}
+use Rattle.session.specs.declared.fault.LineFault.TheVariants.{Shape, Field, Row as InRow, Limit}
 
 abbrev pub row_of : ℕ → ℕ → ℕ → Row
 row_of c p r = record { cost = c; period = p; store = r }
@@ -97,8 +97,8 @@ abbrev pub arrival_of : ℕ → ℕ → Arrival
 arrival_of time row = record { time = time; row = row }
 
 pub data ArrivalsRead (rows : ℕ) (bs : List ℕ) : List Arrival → List ℕ → Type 0 where
-  none : ArrivalsRead rows bs [] bs
-  more :
+  none_yet : ArrivalsRead rows bs [] bs
+  one_more :
       {arrivals : List Arrival} {rest rest' : List ℕ} (time row : ℕ) → ArrivalsRead rows bs arrivals rest →
       ArrivalLine rows rest time row rest' → ArrivalsRead rows bs (arrivals ++ arrival_of time row ∷ []) rest'
 

@@ -1,8 +1,8 @@
 -- What a session file means: a session, or the fault that comes first.
-use Rattle.std.specs.Prelude.{ℕ, ◌+◌, ◌<◌, ◌≤◌, ◌≢◌, List, [], ◌∷◌, length, codes}
+use Rattle.std.specs.Prelude.{◌≡◌, ℕ, ◌+◌, ◌<◌, ◌≤◌, ◌≢◌, List, [], ◌∷◌, length, codes}
 use Rattle.feasibility.specs.declared.row.Row.{Row}
 use Rattle.session.specs.Limits.{max_bytes, max_ticks, max_arrivals}
-use Rattle.lines.specs.LineKinds.{LineOf, WrongLine}
+use Rattle.session.specs.LineKinds.{LineOf, WrongLine}
 use Rattle.session.specs.Sections.{
   LimitedHeading,
   WrongHeading,
@@ -14,8 +14,8 @@ use Rattle.session.specs.Sections.{
 use Rattle.session.specs.declared.arrival.Arrival.{Arrival}
 use Rattle.session.specs.declared.fault.Fault.{Fault}
 use Rattle.session.specs.declared.fault.Fault.TheVariants.{TooLong, InLine}
-use Rattle.lines.specs.declared.fault.LineFault.{LineFault}
-use Rattle.lines.specs.declared.fault.LineFault.TheVariants.{Shape}
+use Rattle.session.specs.declared.fault.LineFault.{LineFault}
+use Rattle.session.specs.declared.fault.LineFault.TheVariants.{Shape}
 
 -- A file begins with the word rows and a number n, and then so many rows; rest is what follows them.
 pub record BeginsWithRows (bs : List ℕ) (rows : List Row) (rest : List ℕ) : Type 0 where

@@ -3,14 +3,19 @@
 
 mod arrival;
 mod arrivals;
+mod bytes;
 mod fault;
+mod field;
 pub mod host;
 pub mod laws;
+mod reader;
 mod rows;
 mod session;
 
 pub use arrival::Arrival;
 pub use arrivals::Arrivals;
-pub use fault::{Fault, PlacedFault};
-pub use lines::{FieldFault, LineFault};
+pub use bytes::{Kind, classify};
+pub use fault::{Fault, LineFault, PlacedFault};
+pub use field::{Field, FieldFault, number};
+pub use reader::Reader;
 pub use session::{Session, read};

@@ -1,13 +1,12 @@
 // The rows of a session file.
-ghost use Rattle.std.specs.Prelude.{◌≡◌, ◌≤◌, length, MatchResult};
+ghost use Rattle.std.specs.Prelude.{◌≡◌, ◌<◌, length, MatchResult};
 ghost use Rattle.feasibility.specs.Contents.{rows_of};
-ghost use Rattle.lines.specs.Limits.{max_number};
-ghost use Rattle.lines.specs.Reading.{left};
+ghost use Rattle.session.specs.Reading.{left};
 ghost use Rattle.session.specs.Sections.{RowLine, WrongRow, RowsRead, RowFault};
 
-use crate::fault::{PlacedFault, placed};
+use crate::fault::{LineFault, PlacedFault};
+use crate::reader::Reader;
 use feasibility::{Draft, Row};
-use lines::{LineFault, Reader};
 
 // Adds the row of the next line.
 pub(crate) fn read_row(reader: &mut Reader, draft: &mut Draft) -> Result<(), LineFault>
@@ -24,12 +23,14 @@ pub(crate) fn read_row(reader: &mut Reader, draft: &mut Draft) -> Result<(), Lin
 
 // Adds the rows of the next `count` lines, of which the first is line 2.
 pub(crate) fn read_rows(reader: &mut Reader, count: u32) -> Result<Draft, PlacedFault>
-    requires { count ≤ max_number }
+    requires { count < 1000000000 }
     ensures { MatchResult result (λ d. RowsRead (left reader.old) (rows_of d.rows) (left reader.new) × (length (rows_of d.rows) ≡ count)) (λ f. RowFault count (left reader.old) f.fault f.line) }
 {
     let mut draft = Draft::new();
     for i in 0..count {
-        placed(read_row(reader, &mut draft), i + 2)?;
+        if let Err(fault) = read_row(reader, &mut draft) {
+            return Err(fault.at(i + 2));
+        }
     }
     Ok(draft)
 }

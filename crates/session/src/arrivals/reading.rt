@@ -1,15 +1,13 @@
 // How arrivals are read and asked for.
 ghost use Rattle.std.specs.Prelude.{◌≡◌, ◌+◌, ◌<◌, ◌≤◌, [], ◌∷◌, ◌++◌, length, MatchResult};
-ghost use Rattle.lines.specs.Limits.{max_number};
 ghost use Rattle.session.specs.Limits.{max_arrivals};
-ghost use Rattle.lines.specs.Reading.{left};
-ghost use Rattle.session.specs.Reading.{arrivals_of};
+ghost use Rattle.session.specs.Reading.{left, arrivals_of};
 ghost use Rattle.session.specs.Sections.{ArrivalLine, WrongArrival, ArrivalsRead, ArrivalFault};
 
 use crate::arrival::Arrival;
 use crate::arrivals::Arrivals;
-use crate::fault::{PlacedFault, placed};
-use lines::{LineFault, Reader};
+use crate::fault::{LineFault, PlacedFault};
+use crate::reader::Reader;
 
 const MAX_TIME: u32 = 4_095;
 
@@ -59,13 +57,15 @@ pub(crate) fn read_arrivals(
     from: u32,
 ) -> Result<Arrivals, PlacedFault>
     requires few { count ≤ max_arrivals }
-    requires early { from ≤ max_number }
+    requires early { from < 2000000000 }
     ensures { MatchResult result (λ a. ArrivalsRead rows (left reader.old) (arrivals_of a) (left reader.new) × (length (arrivals_of a) ≡ count)) (λ f. ArrivalFault rows count from (left reader.old) f.fault f.line) }
 {
     let mut arrivals = Arrivals::new();
     for i in 0..count {
-        let arrival = placed(read_arrival(reader, rows), from + i)?;
-        arrivals.push(arrival);
+        match read_arrival(reader, rows) {
+            Ok(arrival) => arrivals.push(arrival),
+            Err(fault) => return Err(fault.at(from + i)),
+        }
     }
     Ok(arrivals)
 }

@@ -1,6 +1,6 @@
 use Rattle.feasibility.specs.Contents.{rows_of}
 use Rattle.session.proofs.rows.read_rows.Given as goal
-use Rattle.lines.specs.Reading.{left}
+use Rattle.session.specs.Reading.{left}
 use Rattle.session.specs.Sections.{RowsRead}
 use Rattle.std.proofs.Common.{◌≡◌, length}
 

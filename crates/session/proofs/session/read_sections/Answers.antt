@@ -1,8 +1,7 @@
 use Rattle.feasibility.specs.Contents.{rows_of}
 use Rattle.session.proofs.Wrong.{arrival_wrong, arrivals_wrong, is_session, more_wrong, ticks_wrong}
 use Rattle.session.proofs.session.read_sections.Goals as goal
-use Rattle.lines.specs.Reading.{left}
-use Rattle.session.specs.Reading.{arrivals_of}
+use Rattle.session.specs.Reading.{arrivals_of, left}
 use Rattle.session.specs.Sessions.{BeginsWithRows, FirstWrong, IsSession}
 use Rattle.std.proofs.lemmas.Result.{err_from_is_err_and}
 use Rattle.std.proofs.Common.{length, sym, ap, ◌∙◌, subst}
@@ -23,9 +22,8 @@ returns-in_err-ticks c =
     = subst (λ bs. BeginsWithRows bs rows r₁) c.new-reader.ensures.left c.in_ok-draft.ensures in
     let n = c.count-rows.result in
     let is = c.count-rows.ensures ∙ ap (λ d. length (rows_of d)) c.deref.ensures in
-    let at = c.in_err-ticks.ensures in
-    let wrong = rw at.0 at c.limited_heading.ensures in
-    rw (p.1, p.2) (ticks_wrong c.args.bytes.now rows n r₁ begins is wrong at.1)
+    let wrong = c.in_err-ticks.ensures in
+    rw (p.1, p.2) (ticks_wrong c.args.bytes.now rows n r₁ begins is wrong.0 wrong.1)
 
 pub returns-in_err-count : goal.returns-in_err-count
 returns-in_err-count c =
@@ -36,12 +34,11 @@ returns-in_err-count c =
     = subst (λ bs. BeginsWithRows bs rows r₁) c.new-reader.ensures.left c.in_ok-draft.ensures in
     let n = c.count-rows.result in
     let is = c.count-rows.ensures ∙ ap (λ d. length (rows_of d)) c.deref.ensures in
-    let r₂ = left c.limited_heading.new.reader in
-    let at = c.in_err-count.ensures in
-    let wrong = rw at.0 at c.limited_heading-2.ensures in
+    let r₂ = left c.read_heading.new.reader in
+    let wrong = c.in_err-count.ensures in
     rw (p.1, p.2)
     (arrivals_wrong c.args.bytes.now rows n r₁ begins is c.in_ok-ticks.ticks r₂
-    (rw c.in_ok-ticks.ensures at c.limited_heading.ensures) wrong at.1)
+    c.in_ok-ticks.ensures wrong.0 wrong.1)
 
 pub returns-in_err-arrivals : goal.returns-in_err-arrivals
 returns-in_err-arrivals c =
@@ -52,34 +49,33 @@ returns-in_err-arrivals c =
     = subst (λ bs. BeginsWithRows bs rows r₁) c.new-reader.ensures.left c.in_ok-draft.ensures in
     let n = c.count-rows.result in
     let is = c.count-rows.ensures ∙ ap (λ d. length (rows_of d)) c.deref.ensures in
-    let r₂ = left c.limited_heading.new.reader in
-    let r₃ = left c.limited_heading-2.new.reader in
+    let r₂ = left c.read_heading.new.reader in
+    let r₃ = left c.read_heading-2.new.reader in
     let t = c.in_ok-ticks.ticks in
     let m = c.in_ok-count.count in
     rw (p.1, p.2)
-    (arrival_wrong c.args.bytes.now rows n r₁ begins is t r₂ (rw c.in_ok-ticks.ensures at c.limited_heading.ensures) m r₃
-    (rw c.in_ok-count.ensures at c.limited_heading-2.ensures) c.in_err-arrivals.ensures)
+    (arrival_wrong c.args.bytes.now rows n r₁ begins is t r₂ c.in_ok-ticks.ensures m r₃
+    c.in_ok-count.ensures c.in_err-arrivals.ensures)
 
-pub returns-in_err-placed : goal.returns-in_err-placed
-returns-in_err-placed c =
-    let p = err_from_is_err_and c.from_residual-in_err-placed.result c.from_residual-in_err-placed.ensures.1 in
+pub returns-in_err-read_end : goal.returns-in_err-read_end
+returns-in_err-read_end c =
+    let p = err_from_is_err_and c.from_residual-in_err-read_end.result c.from_residual-in_err-read_end.ensures.1 in
     let rows = rows_of c.in_ok-draft.draft.rows in
     let r₁ = left c.read_table.new.reader in
     let begins
     = subst (λ bs. BeginsWithRows bs rows r₁) c.new-reader.ensures.left c.in_ok-draft.ensures in
     let n = c.count-rows.result in
     let is = c.count-rows.ensures ∙ ap (λ d. length (rows_of d)) c.deref.ensures in
-    let r₂ = left c.limited_heading.new.reader in
-    let r₃ = left c.limited_heading-2.new.reader in
+    let r₂ = left c.read_heading.new.reader in
+    let r₃ = left c.read_heading-2.new.reader in
     let t = c.in_ok-ticks.ticks in
     let m = c.in_ok-count.count in
     let read = c.in_ok-arrivals.ensures in
-    let at = c.in_err-placed.ensures in
-    let wrong = rw at.0 at c.end.ensures in
+    let wrong = c.in_err-read_end.ensures in
     rw (p.1, p.2)
-    (more_wrong c.args.bytes.now rows n r₁ begins is t r₂ (rw c.in_ok-ticks.ensures at c.limited_heading.ensures) m r₃
-    (rw c.in_ok-count.ensures at c.limited_heading-2.ensures) (arrivals_of c.in_ok-arrivals.arrivals)
-    (left c.read_arrivals.new.reader) read.0 read.1 wrong.0 at.1 wrong.1)
+    (more_wrong c.args.bytes.now rows n r₁ begins is t r₂ c.in_ok-ticks.ensures m r₃
+    c.in_ok-count.ensures (arrivals_of c.in_ok-arrivals.arrivals)
+    (left c.read_arrivals.new.reader) read.0 read.1 wrong.0 wrong.1 wrong.2)
 
 pub returns : goal.returns
 returns c =
@@ -89,13 +85,13 @@ returns c =
     = subst (λ bs. BeginsWithRows bs rows r₁) c.new-reader.ensures.left c.in_ok-draft.ensures in
     let n = c.count-rows.result in
     let is = c.count-rows.ensures ∙ ap (λ d. length (rows_of d)) c.deref.ensures in
-    let r₂ = left c.limited_heading.new.reader in
-    let r₃ = left c.limited_heading-2.new.reader in
+    let r₂ = left c.read_heading.new.reader in
+    let r₃ = left c.read_heading-2.new.reader in
     let t = c.in_ok-ticks.ticks in
     let m = c.in_ok-count.count in
     let read = c.in_ok-arrivals.ensures in
     let xs = arrivals_of c.in_ok-arrivals.arrivals in
     subst (λ d. IsSession c.args.bytes.now (rows_of d) t xs) (sym c.seal.ensures)
-    (is_session c.args.bytes.now rows n r₁ begins is t r₂ (rw c.in_ok-ticks.ensures at c.limited_heading.ensures) m r₃
-    (rw c.in_ok-count.ensures at c.limited_heading-2.ensures) xs (left c.read_arrivals.new.reader) read.0 read.1 c.requires
-    (rw c.in_ok-placed.ensures at c.end.ensures))
+    (is_session c.args.bytes.now rows n r₁ begins is t r₂ c.in_ok-ticks.ensures m r₃
+    c.in_ok-count.ensures xs (left c.read_arrivals.new.reader) read.0 read.1 c.requires
+    c.in_ok-read_end.ensures)

@@ -1,16 +1,17 @@
+use Rattle.feasibility.specs.Contents.{rows_of}
 use Rattle.session.proofs.Wrong.{placed}
 use Rattle.session.proofs.session.read_table.Goals as goal
-use Rattle.lines.specs.LineKinds.{LineOf}
-use Rattle.lines.specs.Reading.{left}
+use Rattle.session.specs.LineKinds.{LineOf}
+use Rattle.session.specs.Reading.{left}
 use Rattle.session.specs.Sessions.FirstWrong.{heading, row}
-use Rattle.std.proofs.lemmas.Result.{MatchResult-weaker, err_from_is_err_and}
-use Rattle.std.proofs.Common.{[], ◌∷◌, codes, sym, refl, subst}
+use Rattle.std.proofs.lemmas.Result.{MatchResult-weaker}
+use Rattle.std.proofs.Common.{[], ◌∷◌, codes, sym, subst}
 
-pub returns : goal.returns
-returns c =
+pub returns-in-Ok : goal.returns-in-Ok
+returns-in-Ok c =
     let bs = left c.args.reader.now in
     let after = left c.heading.new.self in
-    let line = (rw c.in_ok-count.ensures at c.heading.ensures.line).0 in
+    let line = c.in-Ok.ensures.line.0 in
     MatchResult-weaker c.read_rows.result c.read_rows.ensures
     (λ d read. record {
       after = after;
@@ -18,9 +19,5 @@ returns c =
       read = read.0;
     }) (λ p wrong. row line wrong)
 
-pub returns-in_err-count : goal.returns-in_err-count
-returns-in_err-count c =
-    let p = err_from_is_err_and c.from_residual.result c.from_residual.ensures.1 in
-    let at = c.in_err-count.ensures in
-    let wrong = rw at.0 at c.heading.ensures.line in
-    rw (p.1, p.2) (placed (heading wrong) refl at.1)
+pub returns-in-Err : goal.returns-in-Err
+returns-in-Err c = placed (heading c.in-Err.ensures.line) c.at.ensures.0 c.at.ensures.1

@@ -1,6 +1,5 @@
 use Rattle.session.proofs.arrivals.reading.read_arrivals.Given as goal
-use Rattle.lines.specs.Reading.{left}
-use Rattle.session.specs.Reading.{arrivals_of}
+use Rattle.session.specs.Reading.{left, arrivals_of}
 use Rattle.session.specs.Sections.{ArrivalsRead}
 use Rattle.std.proofs.Common.{◌≡◌, length}
 

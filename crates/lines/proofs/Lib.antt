@@ -1,4 +1,0 @@
-pub mod Digits
-pub mod Scanning
-pub mod Shapes
-pub mod Standing

@@ -1,0 +1,290 @@
+-- Steps of the loops that find the next field, and what a line is before and after it.
+use Rattle.std.proofs.Common.{◌≡◌, ℕ, ◌+◌, ◌<◌, ◌≤◌, Bool, true, false, cond, eqb, ◌⊎◌, List, [], ◌∷◌, ◌++◌, length, get_or, drop, Some, None, Option, sym, refl, ap, ◌∙◌, subst, ap₂, inl, inr, append_assoc, append-nil, arith}
+use Rattle.session.specs.Bytes.{is_space, is_feed, in_field}
+use Rattle.session.specs.Lines.{with_byte, first_line, ends_field, glued, fields, in_fields, next_line, with_field, has, NoField, OneMore}
+use Rattle.session.specs.Scans.{past_spaces, front_field, past_field, line_over}
+use Rattle.std.proofs.lemmas.List.Edits.{between_more, between_none, length-between}
+use Rattle.std.proofs.lemmas.List.{at_drop_all, at_drop_more, drop_all, drop_more}
+use Rattle.std.proofs.lemmas.Bool.{cases_Bool, cond-false, cond-true, both_ways, eqb-true, ne_eqb}
+use Rattle.std.proofs.lemmas.Bool.Decides.{nat_tests}
+use Rattle.std.specs.List.{between}
+
+module _ (xs : List ℕ) (i : ℕ) where
+  pub skip_more :
+      i < length xs → is_space (get_or xs i 0) ≡ true → past_spaces (drop i xs) ≡ past_spaces (drop (i + 1) xs)
+  skip_more l e =
+      at_drop_more past_spaces xs i 0 l ∙
+      ap (λ b. cond b (past_spaces (drop (i + 1) xs)) (get_or xs i 0 ∷ drop (i + 1) xs)) e
+
+  pub skip_stop : i < length xs → is_space (get_or xs i 0) ≡ false → past_spaces (drop i xs) ≡ drop i xs
+  skip_stop l e =
+      at_drop_more past_spaces xs i 0 l ∙
+      ap (λ b. cond b (past_spaces (drop (i + 1) xs)) (get_or xs i 0 ∷ drop (i + 1) xs)) e ∙ sym (drop_more xs i 0 l)
+
+  pub skip_end : length xs ≤ i → past_spaces (drop i xs) ≡ drop i xs
+  skip_end l = ap past_spaces (drop_all i xs l) ∙ sym (drop_all i xs l)
+
+  front_step :
+      (b : Bool) → i < length xs → in_field (get_or xs i 0) ≡ b →
+      front_field (drop i xs) ≡ cond b (get_or xs i 0 ∷ front_field (drop (i + 1) xs)) []
+  front_step b l e =
+      at_drop_more front_field xs i 0 l ∙ ap (λ c. cond c (get_or xs i 0 ∷ front_field (drop (i + 1) xs)) []) e
+
+  past_step :
+      (b : Bool) → i < length xs → in_field (get_or xs i 0) ≡ b →
+      past_field (drop i xs) ≡ cond b (past_field (drop (i + 1) xs)) (get_or xs i 0 ∷ drop (i + 1) xs)
+  past_step b l e =
+      at_drop_more past_field xs i 0 l ∙
+      ap (λ c. cond c (past_field (drop (i + 1) xs)) (get_or xs i 0 ∷ drop (i + 1) xs)) e
+
+module _
+    (xs : List ℕ) (from i : ℕ) (le : from ≤ i)
+    (front : between from i xs ++ front_field (drop i xs) ≡ front_field (drop from xs))
+    (past : past_field (drop i xs) ≡ past_field (drop from xs)) where
+  pub field_more :
+      i < length xs → in_field (get_or xs i 0) ≡ true →
+      (between from (i + 1) xs ++ front_field (drop (i + 1) xs) ≡ front_field (drop from xs)) ×
+      (past_field (drop (i + 1) xs) ≡ past_field (drop from xs))
+  field_more l e = (
+    ap (λ bs. bs ++ front_field (drop (i + 1) xs)) (between_more xs from i 0 le l) ∙
+        append_assoc (between from i xs) _ _ ∙
+        ap (λ bs. between from i xs ++ bs) (sym (front_step xs i true l e)) ∙ front,
+    sym (past_step xs i true l e) ∙ past,
+  )
+
+  pub field_stop :
+      i < length xs → in_field (get_or xs i 0) ≡ false →
+      (between from i xs ≡ front_field (drop from xs)) × (drop i xs ≡ past_field (drop from xs))
+  field_stop l e = (
+    sym (append-nil (between from i xs)) ∙
+        ap (λ bs. between from i xs ++ bs) (sym (front_step xs i false l e)) ∙ front,
+    drop_more xs i 0 l ∙ sym (past_step xs i false l e) ∙ past,
+  )
+
+  pub field_last :
+      length xs ≤ i → (between from i xs ≡ front_field (drop from xs)) × (drop i xs ≡ past_field (drop from xs))
+  field_last l = (
+    sym (append-nil (between from i xs)) ∙
+        ap (λ bs. between from i xs ++ bs) (sym (at_drop_all front_field xs i l)) ∙ front,
+    drop_all i xs l ∙ sym (at_drop_all past_field xs i l) ∙ past,
+  )
+
+abbrev pub in_line : List (List ℕ) → List ℕ → Option (List (List ℕ) × List ℕ)
+in_line fs rest = Some (fs, rest)
+
+-- the line, if there is one, begins with a space or is empty
+abbrev Ends : Option (List ℕ × List ℕ) → Type 0
+Ends None = Unit {0}
+Ends (Some p) = ends_field p.0 ≡ true
+
+-- a space is no line feed, and no byte of a field is either
+space_is : (b : ℕ) → is_space b ≡ true → is_feed b ≡ false
+space_is b e = ne_eqb b 10 (λ f. bad (eqb-true b 32 e) f)
+  where
+    bad : b ≡ 32 → b ≡ 10 → ⊥
+    bad p q = omega arith
+
+in_is : (b : ℕ) → in_field b ≡ true → (is_space b ≡ false) × (is_feed b ≡ false)
+in_is b e = (grind (arith, nat_tests), grind (arith, nat_tests))
+
+not_in : (b : ℕ) → in_field b ≡ false → (is_space b ≡ true) ⊎ (is_feed b ≡ true)
+not_in b e = grind (arith, nat_tests)
+
+-- spaces at the front of a line make no difference
+line_space : (b : ℕ) (bs : List ℕ) → is_space b ≡ true → next_line (b ∷ bs) ≡ next_line bs
+line_space b bs e =
+    ap in_fields (cond-false (is_feed b) (Some ([], bs)) (with_byte b (first_line bs)) (space_is b e)) ∙
+    at (first_line bs)
+  where
+    at : (o : Option (List ℕ × List ℕ)) → in_fields (with_byte b o) ≡ in_fields o
+    at None = refl
+    at (Some p) =
+        let is = cond-true (is_space b) (fields p.0) (glued b (ends_field p.0) (fields p.0)) e in
+        ap (λ fs. in_line fs p.1) is
+
+pub line_past_spaces : (bs : List ℕ) → next_line (past_spaces bs) ≡ next_line bs
+line_past_spaces [] = refl
+line_past_spaces (b ∷ bs) = at (line_past_spaces bs) (cases_Bool (is_space b))
+  where
+    at :
+        next_line (past_spaces bs) ≡ next_line bs → (is_space b ≡ true) ⊎ (is_space b ≡ false) →
+        next_line (past_spaces (b ∷ bs)) ≡ next_line (b ∷ bs)
+    at rest (inl t) =
+        ap next_line (cond-true (is_space b) (past_spaces bs) (b ∷ bs) t) ∙ rest ∙ sym (line_space b bs t)
+    at rest (inr f) = ap next_line (cond-false (is_space b) (past_spaces bs) (b ∷ bs) f)
+
+-- what stops a field ends it
+stop : (bs : List ℕ) → (o : Option (List ℕ × List ℕ)) → first_line (past_field bs) ≡ o → Ends o
+stop [] o e = subst Ends e tt
+stop (b ∷ bs) o e = at (stop bs o) (cases_Bool (in_field b))
+  where
+    at : (first_line (past_field bs) ≡ o → Ends o) → (in_field b ≡ true) ⊎ (in_field b ≡ false) → Ends o
+    at rest (inl t) =
+        rest (ap first_line (sym (cond-true (in_field b) (past_field bs) (b ∷ bs) t)) ∙ e)
+    at rest (inr f) =
+        subst Ends (ap first_line (sym (cond-false (in_field b) (past_field bs) (b ∷ bs) f)) ∙ e) (stopped (not_in b f))
+      where
+        stopped : (is_space b ≡ true) ⊎ (is_feed b ≡ true) → Ends (first_line (b ∷ bs))
+        stopped (inr feed) = subst Ends (sym (cond-true (is_feed b) (Some ([], bs)) (with_byte b (first_line bs)) feed)) refl
+        stopped (inl space) =
+            subst Ends (sym (cond-false (is_feed b) (Some ([], bs)) (with_byte b (first_line bs)) (space_is b space)))
+            (spaced (first_line bs))
+          where
+            spaced : (p : Option (List ℕ × List ℕ)) → Ends (with_byte b p)
+            spaced None = tt
+            spaced (Some p) = space
+
+-- a byte of a field, before the end of the field and before another byte of it
+fields_of : Option (List (List ℕ) × List ℕ) → List (List ℕ)
+fields_of None = []
+fields_of (Some p) = p.0
+
+rest_of : Option (List (List ℕ) × List ℕ) → List ℕ
+rest_of None = []
+rest_of (Some p) = p.1
+
+none_some : (p : List (List ℕ) × List ℕ) → ◌≡◌ {A = Option (List (List ℕ) × List ℕ)} None (Some p) → ⊥
+none_some p e = let z : ◌≡◌ {A = ℕ} 0 1 = cc in omega arith
+
+module _ (b : ℕ) (inside : is_space b ≡ false) where
+  glue : (bs : List ℕ) → fields (b ∷ bs) ≡ glued b (ends_field bs) (fields bs)
+  glue bs = cond-false (is_space b) (fields bs) (glued b (ends_field bs) (fields bs)) inside
+
+  glue_last :
+      (o : Option (List ℕ × List ℕ)) → Ends o → in_fields (with_byte b o) ≡ with_field (b ∷ []) (in_fields o)
+  glue_last None ends = refl
+  glue_last (Some p) ends =
+      ap (λ fs. in_line fs p.1) (glue p.0 ∙ ap (λ t. glued b t (fields p.0)) ends)
+
+  glue_more :
+      (c : ℕ) (f : List ℕ) (o : Option (List ℕ × List ℕ)) (n : Option (List (List ℕ) × List ℕ)) →
+      is_space c ≡ false → in_fields (with_byte c o) ≡ with_field (c ∷ f) n →
+      in_fields (with_byte b (with_byte c o)) ≡ with_field (b ∷ c ∷ f) n
+  unfolding fields_of rest_of
+  glue_more c f None None other e = refl
+  glue_more c f None (Some n) other e = absurd (none_some _ e)
+  glue_more c f (Some p) None other e = absurd (none_some _ (sym e))
+  glue_more c f (Some p) (Some n) other e =
+      let now_fields : fields (c ∷ p.0) ≡ (c ∷ f) ∷ n.0 = ap fields_of e in
+      let now_rest : p.1 ≡ n.1 = ap rest_of e in
+      let is : fields (b ∷ c ∷ p.0) ≡ (b ∷ c ∷ f) ∷ n.0
+      = glue (c ∷ p.0) ∙ ap (λ t. glued b t (fields (c ∷ p.0))) other ∙ ap (glued b false) now_fields in
+      ap₂ in_line is now_rest
+
+-- what follows the first byte of a field
+inner :
+    (b : ℕ) (bs : List ℕ) → in_field b ≡ true →
+    in_fields (with_byte b (first_line bs)) ≡ with_field (b ∷ front_field bs) (next_line (past_field bs))
+inner b [] t = refl
+inner b (c ∷ cs) t = by (inner c cs) (cases_Bool (in_field c))
+  where
+    by :
+        (in_field c ≡ true →
+        in_fields (with_byte c (first_line cs)) ≡ with_field (c ∷ front_field cs) (next_line (past_field cs))) →
+        (in_field c ≡ true) ⊎ (in_field c ≡ false) →
+        in_fields (with_byte b (first_line (c ∷ cs))) ≡
+        with_field (b ∷ front_field (c ∷ cs)) (next_line (past_field (c ∷ cs)))
+    by later (inr f) =
+        let front = cond-false (in_field c) (c ∷ front_field cs) [] f in
+        let past = cond-false (in_field c) (past_field cs) (c ∷ cs) f in
+        glue_last b (in_is b t).0 (first_line (c ∷ cs)) (stop (c ∷ cs) (first_line (c ∷ cs)) (ap first_line past)) ∙
+        ap₂ (λ fs ps. with_field (b ∷ fs) (next_line ps)) (sym front) (sym past)
+    by later (inl u) =
+        let front = cond-true (in_field c) (c ∷ front_field cs) [] u in
+        let past = cond-true (in_field c) (past_field cs) (c ∷ cs) u in
+        ap (λ o. in_fields (with_byte b o))
+        (cond-false (is_feed c) (Some ([], cs)) (with_byte c (first_line cs)) (in_is c u).1) ∙
+        glue_more b (in_is b t).0 c (front_field cs) (first_line cs) (next_line (past_field cs)) (in_is c u).0 (later u) ∙
+        ap₂ (λ fs ps. with_field (b ∷ fs) (next_line ps)) (sym front) (sym past)
+
+-- a line that begins with a field
+pub line_field :
+    (bs : List ℕ) → (front_field bs ≡ [] → ⊥) → next_line bs ≡ with_field (front_field bs) (next_line (past_field bs))
+line_field [] some = absurd (some refl)
+line_field (b ∷ bs) some = at (cases_Bool (in_field b))
+  where
+    at :
+        (in_field b ≡ true) ⊎ (in_field b ≡ false) →
+        next_line (b ∷ bs) ≡ with_field (front_field (b ∷ bs)) (next_line (past_field (b ∷ bs)))
+    at (inr f) = absurd (some (cond-false (in_field b) (b ∷ front_field bs) [] f))
+    at (inl t) =
+        ap in_fields (cond-false (is_feed b) (Some ([], bs)) (with_byte b (first_line bs)) (in_is b t).1) ∙
+        inner b bs t ∙
+        ap₂ (λ fs ps. with_field fs (next_line ps)) (sym (cond-true (in_field b) (b ∷ front_field bs) [] t))
+        (sym (cond-true (in_field b) (past_field bs) (b ∷ bs) t))
+
+-- past the spaces no field begins: the line is over
+pub no_field : (bs : List ℕ) → front_field (past_spaces bs) ≡ [] → line_over (past_spaces bs) ≡ true
+no_field [] none = refl
+no_field (b ∷ bs) none = at (no_field bs) (cases_Bool (is_space b))
+  where
+    at :
+        (front_field (past_spaces bs) ≡ [] → line_over (past_spaces bs) ≡ true) →
+        (is_space b ≡ true) ⊎ (is_space b ≡ false) → line_over (past_spaces (b ∷ bs)) ≡ true
+    at rest (inl t) =
+        let is = cond-true (is_space b) (past_spaces bs) (b ∷ bs) t in
+        ap line_over is ∙ rest (ap front_field (sym is) ∙ none)
+    at rest (inr f) =
+        let is = cond-false (is_space b) (past_spaces bs) (b ∷ bs) f in
+        ap line_over is ∙ feed (cases_Bool (in_field b)) (ap front_field (sym is) ∙ none)
+      where
+        feed : (in_field b ≡ true) ⊎ (in_field b ≡ false) → front_field (b ∷ bs) ≡ [] → is_feed b ≡ true
+        feed (inl u) e = absurd (some_none (sym (cond-true (in_field b) (b ∷ front_field bs) [] u) ∙ e))
+          where
+            some_none : ◌≡◌ {A = List ℕ} (b ∷ front_field bs) [] → ⊥
+            some_none x = let z : ◌≡◌ {A = ℕ} 0 1 = cc in omega arith
+        feed (inr v) e = which (not_in b v)
+          where
+            which : (is_space b ≡ true) ⊎ (is_feed b ≡ true) → is_feed b ≡ true
+            which (inl s) = absurd (both_ways (is_space b) f s)
+            which (inr s) = s
+
+-- the bounds of the next field
+module _
+    (xs : List ℕ) (from start end : ℕ) (skipped : drop start xs ≡ past_spaces (drop from xs))
+    (front : between start end xs ≡ front_field (drop start xs)) (past : drop end xs ≡ past_field (drop start xs)) where
+  pub bounds_none :
+      start ≡ end → (next_line (drop end xs) ≡ next_line (drop from xs)) × (line_over (drop end xs) ≡ true)
+  bounds_none e =
+      let same : drop end xs ≡ past_spaces (drop from xs) = ap (λ i. drop i xs) (sym e) ∙ skipped in
+      let none : front_field (past_spaces (drop from xs)) ≡ []
+      = ap front_field (sym skipped) ∙ sym front ∙ ap (λ i. between start i xs) (sym e) ∙ between_none xs start in (
+        ap next_line same ∙ line_past_spaces (drop from xs),
+        ap line_over same ∙ no_field (drop from xs) none,
+      )
+
+  pub bounds_some :
+      end ≤ length xs → start < end →
+      next_line (drop from xs) ≡ with_field (between start end xs) (next_line (drop end xs))
+  bounds_some within lt =
+      sym (line_past_spaces (drop from xs)) ∙ ap next_line (sym skipped) ∙ line_field (drop start xs) some ∙
+      ap₂ (λ f bs. with_field f (next_line bs)) (sym front) (sym past)
+    where
+      some : front_field (drop start xs) ≡ [] → ⊥
+      some e = omega (arith, length-between xs start end within, ap length front, ap length e)
+
+-- how many fields a line has, with one more and at its end
+pub has_none : (f : List ℕ) (o : Option (List (List ℕ) × List ℕ)) → has 0 (with_field f o) ≡ false
+has_none f None = refl
+has_none f (Some p) = ne_eqb (length (f ∷ p.0)) 0 (λ e. omega arith)
+
+pub one_more : (f : List ℕ) (o : Option (List (List ℕ) × List ℕ)) → OneMore (with_field f o) o
+one_more f None = (refl, refl, refl)
+one_more f (Some p) = (grind (arith, nat_tests), grind (arith, nat_tests), grind (arith, nat_tests))
+
+pub over_has : (bs : List ℕ) → line_over bs ≡ true → NoField (next_line bs)
+over_has [] over = (refl, refl, refl)
+over_has (b ∷ bs) over = subst NoField (sym is) (refl, refl, refl)
+  where
+    is : next_line (b ∷ bs) ≡ Some ([], bs)
+    is = ap in_fields (cond-true (is_feed b) (Some ([], bs)) (with_byte b (first_line bs)) over)
+
+pub line_ended :
+    (xs : List ℕ) (i : ℕ) → i < length xs → line_over (drop i xs) ≡ true →
+    next_line (drop i xs) ≡ Some ([], drop (i + 1) xs)
+line_ended xs i l over =
+    let at = drop_more xs i 0 l in
+    ap next_line at ∙
+    ap in_fields
+    (cond-true (is_feed (get_or xs i 0)) (Some ([], drop (i + 1) xs)) (with_byte (get_or xs i 0) (first_line (drop (i + 1) xs)))
+    (ap line_over (sym at) ∙ over))
