@@ -1,6 +1,6 @@
 -- A test of a case that the checker computes, and what it shows.
-use Rattle.std.proofs.Common.{◌≡◌, ℕ, zero, suc, ◌-◌, ◌%◌, ◌<◌, ◌≤◌, Bool, true, false, not, ◌&&◌, ◌||◌, eqb, ltb, leb, ◌⊎◌, List, [], ◌∷◌, length, Decides, refl, inl, inr, arith}
-use Rattle.feasibility.specs.Cases.{Case, Stands, cases, CasesStand}
+use Rattle.std.proofs.Common.{◌≡◌, ℕ, zero, suc, ◌-◌, ◌%◌, ◌<◌, ◌≤◌, Bool, true, not, ◌&&◌, ◌||◌, eqb, ltb, leb, ◌⊎◌, List, [], ◌∷◌, length, Decides, refl, inl, inr, arith}
+use Rattle.feasibility.specs.Cases.{Case, Stands, cases, CasesStand, case_j, ExampleStands}
 use Rattle.feasibility.specs.Limits.{max_period, max_rows, max_store}
 use Rattle.feasibility.specs.Tables.{row_at, Limited, Sound, Common, Hyperperiod, load_of, least_period}
 use Rattle.feasibility.specs.Told.{told}
@@ -209,3 +209,6 @@ tests_show (c ∷ cs) e =
 
 pub cases_stand_lem : CasesStand
 cases_stand_lem = tests_show cases refl
+
+pub example_stands_lem : ExampleStands
+example_stands_lem = test_shows case_j refl

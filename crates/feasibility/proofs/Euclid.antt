@@ -1,5 +1,5 @@
 -- Euclid's step, and the least common multiple that it gives.
-use Rattle.std.proofs.Common.{◌≡◌, ℕ, ◌+◌, ◌*◌, ◌/◌, ◌%◌, ◌<◌, ◌≤◌, ◌⊎◌, sym, refl, ap, ◌∙◌, inl, inr, mul-le-mul_left, mul-pos, arith}
+use Rattle.std.proofs.Common.{◌≡◌, ℕ, ◌+◌, ◌*◌, ◌/◌, ◌%◌, ◌<◌, ◌≤◌, ◌⊎◌, sym, ap, ◌∙◌, inl, inr, mul-le-mul_left, mul-pos, arith}
 use Rattle.feasibility.specs.Divisors.{Cancels, GreatestCommonDivisor, LeastCommonMultiple}
 use Rattle.std.proofs.lemmas.Bool.{cases_eq}
 use native.Mathlib.Nat.{div-add-mod, dvd_of_mod-eq-zero, le_of_mul-le-mul_left, mul-add-mod_self_left, mul-div_cancel', mul-mod_right}

@@ -1,17 +1,9 @@
 -- Exactly one verdict is right of a table: one is found by a bounded search, and no other can be.
-use Rattle.std.proofs.Common.{◌≡◌, ℕ, zero, suc, ◌+◌, ◌-◌, ◌<◌, ◌≤◌, ◌⊎◌, List, length, sym, refl, ap, ◌∙◌, subst, ap₂, inl, inr, add-sub_cancel, arith}
+use Rattle.std.proofs.Common.{◌≡◌, ℕ, zero, suc, ◌+◌, ◌-◌, ◌<◌, ◌≤◌, ◌⊎◌, List, length, sym, refl, ◌∙◌, subst, ap₂, inl, inr, add-sub_cancel, arith}
 use Rattle.feasibility.specs.Laws.{OneVerdict}
 use Rattle.feasibility.specs.Tables.{row_at, load_of, least_period}
 use Rattle.feasibility.specs.Told.{told}
-use Rattle.feasibility.specs.Verdicts.{
-  needed,
-  Tried,
-  FirstFailing,
-  IsFit,
-  IsOverloaded,
-  IsBlocked,
-  Judged,
-}
+use Rattle.feasibility.specs.Verdicts.{needed, Tried, FirstFailing, Judged}
 use Rattle.feasibility.specs.declared.row.Row.{Row}
 use Rattle.feasibility.specs.declared.verdict.Verdict.{Verdict}
 use Rattle.feasibility.specs.declared.verdict.Verdict.TheVariants.{Fit, Overloaded, Blocked}

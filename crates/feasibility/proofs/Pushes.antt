@@ -1,5 +1,5 @@
 -- One row more at the end of a table.
-use Rattle.std.proofs.Common.{◌≡◌, ℕ, ◌+◌, ◌%◌, ◌<◌, ◌≤◌, min, cond, eqb, ◌⊎◌, List, [], ◌∷◌, ◌++◌, length, get_or, take, set, sym, refl, ap, ◌∙◌, subst, ap₂, inl, inr, mod-lt, arith}
+use Rattle.std.proofs.Common.{◌≡◌, ℕ, ◌+◌, ◌%◌, ◌<◌, ◌≤◌, cond, eqb, ◌⊎◌, List, [], ◌∷◌, ◌++◌, length, get_or, take, set, sym, refl, ap, ◌∙◌, subst, ap₂, inl, inr, mod-lt, arith}
 use Rattle.feasibility.specs.Divisors.{LeastCommonMultiple}
 use Rattle.feasibility.specs.Tables.{row_at, blank, Limited, Sound, Common, Hyperperiod, lower, least_period}
 use Rattle.feasibility.specs.declared.row.Row.{Row}

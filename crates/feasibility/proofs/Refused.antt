@@ -1,5 +1,5 @@
 -- A refused table is hopeless: under the requests that its verdict names, every schedule is late.
-use Rattle.std.proofs.Common.{◌≡◌, ℕ, zero, suc, ◌+◌, ◌-◌, ◌*◌, ◌/◌, ◌%◌, ◌<◌, ◌≤◌, true, false, cond, eqb, ◌≢◌, ◌⊎◌, List, length, Some, None, Option, sym, refl, ap, ◌∙◌, subst, ap₂, inl, inr, le_trans, mul-le-mul_left, arith}
+use Rattle.std.proofs.Common.{◌≡◌, ℕ, ◌+◌, ◌-◌, ◌*◌, ◌/◌, ◌%◌, ◌<◌, ◌≤◌, true, false, cond, eqb, ◌≢◌, ◌⊎◌, List, length, Some, None, Option, sym, refl, ap, ◌∙◌, subst, ap₂, inl, inr, le_trans, mul-le-mul_left, arith}
 use Rattle.feasibility.proofs.Counting.{job, finished_fit, some_unit, unit_is, units_later}
 use Rattle.feasibility.proofs.Demands.{jobs, positive, demand_is, share_is, jobs_due, jobs_some}
 use Rattle.feasibility.proofs.OneVerdict.{first_place}
@@ -12,23 +12,8 @@ use Rattle.feasibility.specs.Hopeless.{
   OverloadIsHopeless,
   RefusalsAreDeserved,
 }
-use Rattle.feasibility.specs.Schedules.{
-  Job,
-  Requests,
-  Schedule,
-  Lawful,
-  due,
-  relative_deadline,
-  units,
-  Requested,
-  Finished,
-  Unfinished,
-  Serves,
-  Busy,
-  Unshared,
-  LateBy,
-}
-use Rattle.feasibility.specs.Sums.{Σ<, Σ<_but}
+use Rattle.feasibility.specs.Schedules.{Job, Requests, Schedule, Lawful, due, units, Requested, Finished, Unfinished, Serves, Busy, Unshared, LateBy}
+use Rattle.feasibility.specs.Sums.{Σ<}
 use Rattle.feasibility.specs.Tables.{row_at, Sound, load_of, share, least_period, Least}
 use Rattle.feasibility.specs.Verdicts.{demand, needed, Tried}
 use Rattle.feasibility.specs.declared.row.Row.{Row}

@@ -1,8 +1,8 @@
 -- The least period of a store's users.
-use Rattle.std.proofs.Common.{◌≡◌, ℕ, zero, suc, ◌<◌, ◌≤◌, cond, eqb, ◌≢◌, ◌⊎◌, List, [], ◌∷◌, length, sym, refl, ap, ◌∙◌, inl, inr, arith}
+use Rattle.std.proofs.Common.{◌≡◌, ℕ, zero, suc, ◌<◌, ◌≤◌, cond, eqb, ◌≢◌, ◌⊎◌, List, [], ◌∷◌, length, sym, ◌∙◌, inl, inr, arith}
 use Rattle.feasibility.specs.Tables.{row_at, Limited, Sound, lower, least_period, Least}
 use Rattle.feasibility.specs.declared.row.Row.{Row}
-use Rattle.std.proofs.lemmas.Bool.{cases_eq, cases_lt, cond-true, cond-false, eq-eqb, ne_eqb}
+use Rattle.std.proofs.lemmas.Bool.{cases_eq, cond-true, cond-false, eq-eqb, ne_eqb}
 use Rattle.std.proofs.lemmas.Bool.Decides.{nat_tests}
 
 pub sound_rest : (x : Row) (xs : List Row) → Sound (x ∷ xs) → Sound xs

@@ -27,11 +27,7 @@ case_d = case (row 1 2 0 ∷ row 1 3 0 ∷ row 1 6 0 ∷ row 1 6 0 ∷ []) 6 7 (
 abbrev pub case_f : Case
 case_f = case (row 1 2 1 ∷ row 3 6 1 ∷ []) 6 6 (Blocked 2 3)
 
--- The table of the example session.
-abbrev pub case_j : Case
-case_j = case (row 1 4 0 ∷ row 2 6 1 ∷ row 2 12 1 ∷ []) 12 9 Fit
-
--- A to J, in this order.
+-- A to I, in this order.
 abbrev pub cases : List Case
 cases =
     case [] 1 0 Fit
@@ -43,7 +39,6 @@ cases =
     ∷ case (row 1 2 1 ∷ row 2 6 1 ∷ []) 6 5 Fit
     ∷ case (row 1 4 0 ∷ row 1 5 1 ∷ row 1 6 1 ∷ row 5 25 2 ∷ row 5 28 2 ∷ []) 2100 2090 Fit
     ∷ case (row 1 4 0 ∷ row 1 5 1 ∷ row 1 6 1 ∷ row 5 25 1 ∷ row 5 28 1 ∷ []) 2100 2090 (Blocked 4 6)
-    ∷ case_j
     ∷ []
 
 -- What the definitions say of a case.
@@ -56,3 +51,10 @@ pub record Stands (c : Case) : Type 0 where
 
 abbrev pub CasesStand : Type 0
 CasesStand = All Stands cases
+
+-- The table of the example session.
+abbrev pub case_j : Case
+case_j = case (row 1 4 0 ∷ row 2 6 1 ∷ row 2 12 1 ∷ []) 12 9 Fit
+
+abbrev pub ExampleStands : Type 0
+ExampleStands = Stands case_j

@@ -1,5 +1,5 @@
 -- A refused table is hopeless: under requests that the verdict names, every schedule is late.
-use Rattle.std.specs.Prelude.{ℕ, ◌-◌, ◌%◌, true, false, cond, List, MatchBool, ◌==◌}
+use Rattle.std.specs.Prelude.{ℕ, ◌-◌, ◌%◌, false, cond, List, MatchBool, ◌==◌}
 use Rattle.feasibility.specs.Cases.{case_d, case_f}
 use Rattle.feasibility.specs.Schedules.{Requests, Schedule, Lawful, Serves, Busy, Unshared, LateBy}
 use Rattle.feasibility.specs.Tables.{row_at, Sound}

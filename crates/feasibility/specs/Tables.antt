@@ -1,6 +1,6 @@
 -- A job table is the list of its rows in the order in which they were added. Places count from 0; the number by which
 -- a user names a row is its place + 1.
-use Rattle.std.specs.Prelude.{◌≡◌, ℕ, ◌+◌, ◌*◌, ◌/◌, ◌%◌, ◌<◌, ◌≤◌, min, cond, ◌≢◌, List, [], ◌∷◌, length, ◌==◌, slice_index, slice_index_or}
+use Rattle.std.specs.Prelude.{◌≡◌, ℕ, ◌*◌, ◌/◌, ◌%◌, ◌<◌, ◌≤◌, min, cond, ◌≢◌, List, [], ◌∷◌, length, ◌==◌, slice_index, slice_index_or}
 use Rattle.feasibility.specs.Limits.{max_period, max_store}
 use Rattle.feasibility.specs.Sums.{Σ<}
 use Rattle.feasibility.specs.declared.row.Row.{Row}

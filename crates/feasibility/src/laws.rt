@@ -1,5 +1,5 @@
 // Theorems about the definitions alone. A call does nothing; what it ensures is the theorem.
-ghost use Rattle.feasibility.specs.Cases.{CasesStand};
+ghost use Rattle.feasibility.specs.Cases.{CasesStand, ExampleStands};
 ghost use Rattle.feasibility.specs.Hopeless.{RefusalsAreDeserved, SchedulesExist};
 ghost use Rattle.feasibility.specs.Laws.{OneVerdict};
 
@@ -8,9 +8,14 @@ pub fn exactly_one_verdict()
     ensures { OneVerdict }
 {}
 
-// The tables A to J have the hyperperiods, loads and verdicts that are worked out by hand.
+// The tables A to I have the hyperperiods, loads and verdicts that are worked out by hand.
 pub fn cases_stand()
     ensures { CasesStand }
+{}
+
+// The same of the table of the example session.
+pub fn example_stands()
+    ensures { ExampleStands }
 {}
 
 // Of a table that is told to be overloaded or blocked: under the requests that the verdict names, which are lawful,

@@ -1,4 +1,4 @@
-use Rattle.std.proofs.Common.{ℕ, refl, arith}
+use Rattle.std.proofs.Common.{refl, arith}
 use Rattle.feasibility.proofs.Pushes.{hyperperiod_push}
 use Rattle.feasibility.proofs.rows.Rows.hyperperiod_with.Goals as goal
 use Rattle.feasibility.specs.Contents.{rows_of}

@@ -1,8 +1,8 @@
-use Rattle.std.proofs.Common.{◌≡◌, ◌≤◌, get_or, sym, ◌∙◌, subst, arith}
+use Rattle.std.proofs.Common.{sym, ◌∙◌, subst, arith}
 use Rattle.feasibility.proofs.Stores.{least_law, least_none, least_short}
 use Rattle.feasibility.proofs.rows.Rows.kept_period.Goals as goal
 use Rattle.feasibility.specs.Contents.{rows_of}
-use Rattle.feasibility.specs.Tables.{Least, least_period}
+use Rattle.feasibility.specs.Tables.{Least}
 
 pub returns : goal.returns
 returns c =

@@ -9,22 +9,16 @@ pub invariant_of-self : goal.invariant_of-self
 invariant_of-self c =
     let s = c.args.self.now in
     let x = c.args.row in
-    let rows = rows_after s.cells c.place.new.cells s.count x (omega arith) c.place.ensures in (
-      omega arith,
-      (
-        omega (arith, ap length rows, length_push (rows_of s) x, s.counted),
-        (
-          subst Sound (sym rows) (sound_push (rows_of s) x s.sound c.requires.limited),
-          (
-            subst (λ xs. Hyperperiod xs c.args.hyperperiod) (sym rows) c.requires.exact,
-            (
-              c.requires.within,
-              (λ r l. c.note_period.ensures (rows_of s) s.shortest r l ∙ ap (λ xs. least_period xs r) (sym rows), tt),
-            ),
-          ),
-        ),
-      ),
-    )
+    let rows = rows_after s.cells c.place.new.cells s.count x (omega arith) c.place.ensures in
+    record {
+      few = omega arith;
+      counted = omega (arith, ap length rows, length_push (rows_of s) x, s.counted);
+      sound = subst Sound (sym rows) (sound_push (rows_of s) x s.sound c.requires.limited);
+      exact = subst (λ xs. Hyperperiod xs c.args.hyperperiod) (sym rows) c.requires.exact;
+      within = c.requires.within;
+      shortest =
+          λ r l. c.note_period.ensures (rows_of s) s.shortest r l ∙ ap (λ xs. least_period xs r) (sym rows);
+    }
 
 pub returns : goal.returns
 returns c =
