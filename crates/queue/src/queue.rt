@@ -21,7 +21,7 @@ impl<'a, T: Order + Copy> Queue<'a, T> {
     pub fn new(cells: &'a mut [T]) -> Queue<'a, T>
         ensures lent { lent result ≡ cells.old }
         ensures contents { contents result ≡ [] }
-        ensures order { Heaped before (contents result) }
+        ensures order { Heaped T.before (contents result) }
     {
         Queue { cells, used: 0 }
     }
@@ -42,7 +42,7 @@ impl<'a, T: Order + Copy> Queue<'a, T> {
 
     // An element that none comes before, if the elements stand in heap order.
     pub fn first(&self) -> Option<T>
-        ensures { IsFirst before (contents self.now) result }
+        ensures { IsFirst T.before (contents self.now) result }
     {
         if self.len() == 0 {
             return None;
@@ -64,7 +64,7 @@ impl<'a, T: Order + Copy> Queue<'a, T> {
     pub fn add(&mut self, x: T) -> Result<(), Full>
         ensures answer { is_ok result ≡ has_room self.old }
         ensures contents { Adds x result self.old self.new }
-        ensures order { StaysHeaped before self.old self.new }
+        ensures order { StaysHeaped T.before self.old self.new }
     {
         if self.len() >= self.cells.len() {
             return Err(Full);
@@ -76,9 +76,9 @@ impl<'a, T: Order + Copy> Queue<'a, T> {
 
     // Takes the first element out.
     pub fn take_first(&mut self) -> Option<T>
-        ensures answer { IsFirst before (contents self.old) result }
+        ensures answer { IsFirst T.before (contents self.old) result }
         ensures contents { Takes result self.old self.new }
-        ensures order { StaysHeaped before self.old self.new }
+        ensures order { StaysHeaped T.before self.old self.new }
     {
         self.take_cell(0)
     }
@@ -87,7 +87,7 @@ impl<'a, T: Order + Copy> Queue<'a, T> {
     pub fn take_at(&mut self, cell: usize) -> Option<T>
         ensures answer { Is_at (contents self.old) cell result }
         ensures contents { Takes result self.old self.new }
-        ensures order { StaysHeaped before self.old self.new }
+        ensures order { StaysHeaped T.before self.old self.new }
     {
         self.take_cell(cell)
     }
@@ -95,9 +95,9 @@ impl<'a, T: Order + Copy> Queue<'a, T> {
     // The same, and that cell 0 holds the first element.
     fn take_cell(&mut self, cell: usize) -> Option<T>
         ensures answer { Is_at (contents self.old) cell result }
-        ensures first { cell ≡ 0 → IsFirst before (contents self.old) result }
+        ensures first { cell ≡ 0 → IsFirst T.before (contents self.old) result }
         ensures contents { Takes result self.old self.new }
-        ensures order { StaysHeaped before self.old self.new }
+        ensures order { StaysHeaped T.before self.old self.new }
     {
         if cell >= self.len() {
             return None;
