@@ -1,5 +1,5 @@
 -- How many entries there are, a place at a time.
-use Rattle.std.proofs.Common.{◌≡◌, ℕ, ◌+◌, ◌<◌, List, ◌∷◌, length, get_or, drop, Some, None, Option, ap, ◌∙◌}
+use Rattle.std.proofs.Common.{◌≡◌, ℕ, ◌+◌, ◌<◌, ◌∷◌, length, get_or, drop, Some, None, ap, ◌∙◌}
 use Rattle.ready.specs.Entries.{Entries, filled}
 use Rattle.ready.specs.declared.entry.Slot.{Slot}
 use Rattle.std.proofs.lemmas.List.{at_drop_more}

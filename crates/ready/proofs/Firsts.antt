@@ -1,6 +1,6 @@
 -- The first of the entries at the places below i, as the search for it goes on.
 use Rattle.std.proofs.Common.{◌≡◌, ℕ, suc, ◌+◌, ◌-◌, ◌<◌, ◌≤◌, Bool, true, false, [], ◌∷◌, length, get_or, Some, None, Option, refl, inl, inr, arith, MatchOption}
-use Rattle.ready.specs.Entries.{Entries, slot, entry, held, filled, First, IsFirst}
+use Rattle.ready.specs.Entries.{Entries, slot, entry, held, filled, IsFirst}
 use Rattle.ready.specs.Order.{before, sooner}
 use Rattle.ready.specs.declared.entry.Entry.{Entry}
 use Rattle.ready.specs.declared.entry.Slot.{Slot}
