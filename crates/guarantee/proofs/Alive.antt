@@ -1,23 +1,23 @@
 -- What the record of a life says of the state that it leads to, call by call.
-use Rattle.std.proofs.Common.{◌≡◌, ℕ, ◌-◌, ◌≤◌, Bool, true, false, cond, not, eqb, ltb, List, [], ◌∷◌, length, is_some, IfSome, Some, None, Ok, Err, Option, sym, refl, ap, ◌∙◌, subst, arith, MatchOption}
+use Rattle.std.proofs.Common.{◌≡◌, ℕ, ◌-◌, Bool, true, false, cond, not, eqb, ltb, List, ◌∷◌, length, is_some, IfSome, Some, None, Ok, Option, sym, refl, ap, ◌∙◌, subst, arith, MatchOption}
 use Rattle.feasibility.proofs.Refused.{refusals_are_deserved_lem}
 use Rattle.feasibility.specs.Contents.{numbered}
 use Rattle.feasibility.specs.Tables.{row_at, Sound}
 use Rattle.feasibility.specs.declared.row.Row.{Row}
 use Rattle.guarantee.proofs.Between.{Between, taken_between}
-use Rattle.guarantee.proofs.Facts.{Outcome, accepted, refused, outcome, passed, not_false, is_none, in_table, not_early}
+use Rattle.guarantee.proofs.Facts.{accepted, refused, outcome, passed, not_false, is_none, in_table, not_early}
 use Rattle.guarantee.proofs.Requesting.{released_between}
 use Rattle.guarantee.proofs.Telling.{Seen, seen_between, seen_begun, Right, release_true, spare_true, end_true}
 use Rattle.guarantee.proofs.Ticking.{within as first_within, first_job, idle_between, work_between}
 use Rattle.guarantee.specs.Histories.{History, unwritten, asked, idled, worked}
-use Rattle.guarantee.specs.Laws.{Guaranteed, LivesAreGuaranteed}
-use Rattle.guarantee.specs.Lives.{Event, event, Lived, made, more, heard, history, took, table_taken, Promised, Throughout, LivesOn}
+use Rattle.guarantee.specs.Laws.{LivesAreGuaranteed}
+use Rattle.guarantee.specs.Lives.{Event, event, Lived, made, more, heard, history, took, table_taken, Throughout, LivesOn}
 use Rattle.guarantee.specs.Promises.{Kept}
 use Rattle.guarantee.specs.Rules.{Call, Take, Release, Begin, End, Spare, Reply, Proper, Step, known, row_in, too_early, take_refusal, taken, release_refusal, released, begin_refusal, begun, end_refusal, ended, end_told, first_row, spare_refusal, slack}
 use Rattle.guarantee.specs.States.{State, fresh, state_of, rows_taken, tick_row, is_open}
 use Rattle.guarantee.specs.Truths.{TrueAnswer}
 use Rattle.guarantee.specs.declared.refusal.Refusal.{Refusal}
-use Rattle.guarantee.specs.declared.refusal.Refusal.TheVariants.{TableTaken, ListNotEmpty, CapacityBelowRows, NoTable, UnknownRow, TickOpen, TooEarly, EarlierUnfinished, NoTickOpen, ClockAtLimit}
+use Rattle.guarantee.specs.declared.refusal.Refusal.TheVariants.{TableTaken, ListNotEmpty, CapacityBelowRows, NoTable, UnknownRow, TickOpen, TooEarly, EarlierUnfinished, NoTickOpen}
 use Rattle.guarantee.specs.declared.state.JobState.TheVariants.{Unfinished}
 use Rattle.ready.specs.Entries.{Entries, IsFirst, filled}
 use Rattle.ready.specs.Limits.{max_row}

@@ -1,12 +1,12 @@
 -- A dispatcher between two ticks of its life, and as the proof views it.
-use Rattle.std.proofs.Common.{◌≡◌, ℕ, zero, suc, ◌+◌, ◌-◌, ◌<◌, ◌≤◌, true, false, List, [], ◌∷◌, length, get_or, set, replicate, is_some, Some, None, Option, sym, refl, ap, ◌∙◌, subst, arith}
+use Rattle.std.proofs.Common.{◌≡◌, ℕ, zero, suc, ◌+◌, ◌≤◌, true, false, List, [], ◌∷◌, length, get_or, replicate, is_some, Some, None, Option, sym, refl, ap, ◌∙◌, subst, arith}
 use Rattle.feasibility.specs.Limits.{max_rows}
 use Rattle.feasibility.specs.Tables.{row_at, Sound}
 use Rattle.feasibility.specs.declared.row.Row.{Row}
 use Rattle.guarantee.proofs.Facts.{next_of}
 use Rattle.guarantee.proofs.HistorySteps.{last_later}
 use Rattle.guarantee.proofs.Invariants.{started}
-use Rattle.guarantee.proofs.Views.{Task, View, Linked, Invariant, Started}
+use Rattle.guarantee.proofs.Views.{Task, View, Linked, Invariant}
 use Rattle.guarantee.specs.Histories.{History, unwritten, idled, last_job}
 use Rattle.guarantee.specs.Rules.{taken}
 use Rattle.guarantee.specs.States.{State, fresh, unasked}

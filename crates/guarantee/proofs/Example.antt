@@ -1,8 +1,8 @@
 -- The example session, call by call.
-use Rattle.std.proofs.Common.{◌≡◌, ℕ, ◌+◌, ◌-◌, ◌<◌, ◌≤◌, Bool, true, false, not, List, get_or, replicate, Some, None, Ok, Err, Option, sym, refl, ap, ◌∙◌, arith}
-use Rattle.feasibility.proofs.CaseTests.{all<, all<_at, cases_stand_lem}
-use Rattle.feasibility.specs.Cases.{Stands, cases, case_j}
-use Rattle.guarantee.specs.Cases.{session_j, LivedOver32, CaseJStands}
+use Rattle.std.proofs.Common.{◌≡◌, ℕ, ◌+◌, ◌-◌, ◌≤◌, Bool, true, false, not, get_or, replicate, Some, None, Ok, Err, Option, refl, arith}
+use Rattle.feasibility.proofs.CaseTests.{all<, all<_at, example_stands_lem}
+use Rattle.feasibility.specs.Cases.{Stands, case_j}
+use Rattle.guarantee.specs.Cases.{session_j, CaseJStands}
 use Rattle.guarantee.specs.Lives.{Lived, made, more}
 use Rattle.guarantee.specs.Rules.{Take, Release, Begin, End, taken, released, begun, ended, known, row_in}
 use Rattle.guarantee.specs.States.{State, fresh}
@@ -13,7 +13,6 @@ use Rattle.ready.specs.Limits.{max_row}
 use Rattle.ready.specs.Order.{before}
 use Rattle.ready.specs.declared.entry.Entry.{Entry}
 use Rattle.ready.specs.declared.entry.Slot.{Slot}
-use Rattle.std.proofs.ByRecursion.{All-get_or}
 
 -- whether an entry, if there is one, does not come before e
 abbrev behind : Option Slot → ℕ → Entry → Bool
@@ -110,7 +109,7 @@ abbrev s₁₇ : State
 s₁₇ = ended s₁₆ 0
 
 table : Stands case_j
-table = All-get_or Stands cases 9 case_j (omega arith) cases_stand_lem
+table = example_stands_lem
 
 life : Lived session_j s₁₇
 life =

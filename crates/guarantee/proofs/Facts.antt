@@ -1,5 +1,5 @@
 -- What is known where a call is accepted.
-use Rattle.std.proofs.Common.{◌≡◌, ℕ, ◌+◌, ◌-◌, ◌<◌, ◌≤◌, min, Bool, true, false, cond, not, ◌&&◌, eqb, ltb, leb, ◌≢◌, ◌⊎◌, List, length, is_some as option_is_some, Some, None, Ok, Err, Option, Result, sym, refl, ap, ◌∙◌, inl, inr, arith}
+use Rattle.std.proofs.Common.{◌≡◌, ℕ, ◌+◌, ◌-◌, ◌<◌, ◌≤◌, min, Bool, true, false, cond, not, ◌&&◌, eqb, ltb, leb, ◌⊎◌, List, length, is_some as option_is_some, Some, None, Err, Option, Result, refl, inl, inr, arith}
 use Rattle.feasibility.proofs.Stores.{least_bound}
 use Rattle.feasibility.specs.Contents.{numbered, least_told}
 use Rattle.feasibility.specs.Limits.{max_store}
@@ -8,7 +8,7 @@ use Rattle.feasibility.specs.declared.row.Row.{Row}
 use Rattle.guarantee.specs.Rules.{Ruled, known, too_early, lowered}
 use Rattle.guarantee.specs.States.{State}
 use Rattle.guarantee.specs.declared.refusal.Refusal.{Refusal}
-use Rattle.std.proofs.lemmas.Bool.{cases_eq, eq-eqb, ne_eqb, ltb-false}
+use Rattle.std.proofs.lemmas.Bool.{cases_eq, ne_eqb, ltb-false}
 use Rattle.std.proofs.lemmas.Bool.Decides.{nat_tests}
 
 -- A call is accepted or refused.

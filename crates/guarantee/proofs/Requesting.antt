@@ -7,7 +7,6 @@ use Rattle.guarantee.proofs.Between.{Between, LastIs, joined, kept_at, slot_at, 
 use Rattle.guarantee.proofs.Facts.{next_of, is_none}
 use Rattle.guarantee.proofs.HistorySteps.{asked_cases, asked_more, asked_now, last_now, last_else}
 use Rattle.guarantee.proofs.Invariants as invariants
-use Rattle.guarantee.proofs.Views.{new_task}
 use Rattle.guarantee.specs.Histories.{History, asked}
 use Rattle.guarantee.specs.Rules.{released}
 use Rattle.guarantee.specs.States.{State, unasked}

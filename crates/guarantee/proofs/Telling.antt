@@ -1,15 +1,15 @@
 -- What the answers of a life say is true of its history.
-use Rattle.std.proofs.Common.{◌≡◌, ℕ, ◌+◌, ◌-◌, ◌<◌, ◌≤◌, Bool, true, false, cond, not, leb, ◌⊎◌, List, length, ℤ, pos, ◌-ℤ◌, is_some as option_is_some, Some, None, Option, sym, refl, ap, ◌∙◌, subst, inl, inr, arith, MatchOption}
+use Rattle.std.proofs.Common.{◌≡◌, ℕ, ◌+◌, ◌-◌, ◌<◌, ◌≤◌, true, false, cond, not, leb, List, length, is_some as option_is_some, Some, None, Option, sym, refl, ap, ◌∙◌, inl, arith, MatchOption}
 use Rattle.feasibility.specs.Contents.{numbered}
-use Rattle.feasibility.specs.Schedules.{Job, due, units, Requested, Finished}
+use Rattle.feasibility.specs.Schedules.{due, units, Requested, Finished}
 use Rattle.feasibility.specs.Tables.{row_at}
 use Rattle.feasibility.specs.declared.row.Row.{Row}
 use Rattle.guarantee.proofs.Between.{Between, LastIs, joined, kept_at, slot_at, view}
-use Rattle.guarantee.proofs.Facts.{in_table, is_some, not_early, next_of, not_false, is_none}
+use Rattle.guarantee.proofs.Facts.{in_table, is_some, not_early, not_false, is_none}
 use Rattle.guarantee.proofs.HistorySteps.{units_now}
 use Rattle.guarantee.proofs.Views as views
 use Rattle.guarantee.specs.Histories.{History, last_job, worked}
-use Rattle.guarantee.specs.Rules.{begun, known, row_in, too_early, release_refusal, spare_refusal, slack, unit_told}
+use Rattle.guarantee.specs.Rules.{begun, known, row_in, too_early, release_refusal, slack, unit_told}
 use Rattle.guarantee.specs.States.{State, state_of, rows_taken, is_open}
 use Rattle.guarantee.specs.Truths.{IsTold, Free, Early, PendingJob, AtRest, IsSpare, RefusedRightly}
 use Rattle.guarantee.specs.declared.refusal.Refusal.{Refusal}

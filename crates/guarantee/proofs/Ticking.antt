@@ -8,16 +8,16 @@ use Rattle.guarantee.proofs.Invariants as invariants
 use Rattle.guarantee.proofs.Views as views
 use Rattle.guarantee.proofs.Views.{Task}
 use Rattle.guarantee.specs.Histories.{History, worked, idled}
-use Rattle.guarantee.specs.Rules.{begun, marked, begun_deadline, closed, ended, with_job, unit_given, known}
+use Rattle.guarantee.specs.Rules.{begun, marked, begun_deadline, closed, ended, with_job}
 use Rattle.guarantee.specs.States.{State, unasked, state_of}
 use Rattle.guarantee.specs.declared.state.Pending.{Pending}
 use Rattle.guarantee.specs.declared.state.RowState.{RowState}
-use Rattle.ready.specs.Entries.{Entries, First, entry, slot, filled, has, outside, found_answer, after}
+use Rattle.ready.specs.Entries.{Entries, First, slot, filled, has, outside, found_answer, after}
 use Rattle.ready.specs.Limits.{max_row}
 use Rattle.ready.specs.Order.{before}
 use Rattle.ready.specs.declared.entry.Entry.{Entry}
 use Rattle.ready.specs.declared.entry.Slot.{Slot}
-use Rattle.std.proofs.lemmas.Bool.{cases_eq, cases_lt, cond_both, cond-true, cond-false, eq-eqb, ne_eqb}
+use Rattle.std.proofs.lemmas.Bool.{cases_eq, cases_lt, cond_both, cond-true, cond-false, ne_eqb}
 use Rattle.std.proofs.lemmas.Bool.Decides.{nat_tests}
 
 joined_none : (o : Option Pending) → joined o None ≡ None

@@ -1,6 +1,5 @@
 -- What a dispatcher promises of the history that it makes.
 use Rattle.std.specs.Prelude.{ℕ, List}
-use Rattle.feasibility.specs.Hopeless.{Deserved}
 use Rattle.feasibility.specs.Schedules.{Lawful, Serves, Busy, Unshared, LateBy}
 use Rattle.feasibility.specs.Tables.{Hyperperiod}
 use Rattle.feasibility.specs.Told.{told}

@@ -1,7 +1,6 @@
 -- A dispatcher, by what it stands for.
 use Rattle.std.specs.Prelude.{ℕ, ◌-◌, Bool, true, false, List, [], replicate, Some, None, Option, slice_index_or}
 use Rattle.feasibility.specs.declared.row.Row.{Row}
-use Rattle.guarantee.specs.declared.state.Pending.{Pending}
 use Rattle.guarantee.specs.declared.state.RowState.{RowState}
 use Rattle.guarantee.specs.declared.state.Tick.{Tick}
 use Rattle.guarantee.specs.declared.state.Tick.TheVariants.{Closed, Open}

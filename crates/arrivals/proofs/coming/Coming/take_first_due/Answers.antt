@@ -2,7 +2,6 @@ use Rattle.arrivals.proofs.Firsts.{first_due}
 use Rattle.arrivals.proofs.coming.Coming.take_first_due.Goals as goal
 use Rattle.arrivals.specs.Coming.{contents}
 use Rattle.arrivals.specs.Order.{earlier}
-use Rattle.queue.specs.Contents.{Taken}
 use Rattle.queue.specs.Heaps.{First}
 
 pub returns-in-Some : goal.returns-in-Some
