@@ -5,7 +5,7 @@ use Rattle.arrivals.specs.Coming.{SomeDue}
 use Rattle.arrivals.specs.declared.order.PlacedArrival.{PlacedArrival}
 use Rattle.std.proofs.ByRecursion.{All-weaker, all-has}
 use Rattle.std.proofs.lemmas.Bool.Decides.{nat_tests}
-use Rattle.std.specs.List.{AllByRecursion as All}
+use Rattle.std.specs.List.{AllByRecursion}
 
 -- what does not come before x is not at a lower time
 no_lower : (x y : PlacedArrival) → earlier y x ≡ false → x.time ≤ y.time
@@ -13,12 +13,12 @@ no_lower x y e = grind (arith, nat_tests, e)
 
 -- where the first is later than the clock, all are
 pub all_later :
-    (clock : ℕ) (x : PlacedArrival) (xs : List PlacedArrival) → clock < x.time → All (λ y. earlier y x ≡ false) xs →
-    All (λ y. clock < y.time) xs
+    (clock : ℕ) (x : PlacedArrival) (xs : List PlacedArrival) → clock < x.time → AllByRecursion (λ y. earlier y x ≡ false) xs →
+    AllByRecursion (λ y. clock < y.time) xs
 all_later clock x xs late all =
     All-weaker (λ y. earlier y x ≡ false) (λ y. clock < y.time) (λ y e. omega (arith, no_lower x y e)) xs all
 
-pub none_later : (clock : ℕ) (xs : List PlacedArrival) → length xs ≡ 0 → All (λ y. clock < y.time) xs
+pub none_later : (clock : ℕ) (xs : List PlacedArrival) → length xs ≡ 0 → AllByRecursion (λ y. clock < y.time) xs
 none_later clock [] e = tt
 none_later clock (x ∷ xs) e = absurd (bad e)
   where
@@ -27,7 +27,7 @@ none_later clock (x ∷ xs) e = absurd (bad e)
 
 -- where one is due, the first is
 pub first_due :
-    (clock : ℕ) (x : PlacedArrival) (xs : List PlacedArrival) → SomeDue clock xs → All (λ y. earlier y x ≡ false) xs →
+    (clock : ℕ) (x : PlacedArrival) (xs : List PlacedArrival) → SomeDue clock xs → AllByRecursion (λ y. earlier y x ≡ false) xs →
     x.time ≤ clock
 first_due clock x xs some all =
     omega

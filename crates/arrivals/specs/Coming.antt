@@ -4,7 +4,7 @@ use Rattle.arrivals.specs.Order.{earlier}
 use Rattle.arrivals.specs.declared.order.PlacedArrival.{PlacedArrival}
 use Rattle.arrivals.specs.declared.coming.Coming.{Coming}
 use Rattle.queue.specs.Contents as queues
-use Rattle.std.specs.List.{ContainsAt as Has, AllByRecursion as All}
+use Rattle.std.specs.List.{ContainsAt, AllByRecursion}
 
 -- The arrivals that are to come, in no order that matters.
 abbrev pub contents : Coming → List PlacedArrival
@@ -13,18 +13,18 @@ contents c = queues.contents c.queue
 -- One of these is due at the clock.
 pub record SomeDue (clock : ℕ) (xs : List PlacedArrival) : Type 0 where
   pub arrival : PlacedArrival
-  pub held : Has xs arrival
+  pub held : ContainsAt xs arrival
   pub due : arrival.time ≤ clock
 
 -- x is due at the clock, and none that is to come comes before it; it comes out.
 pub record Comes (clock : ℕ) (c c' : Coming) (x : PlacedArrival) : Type 0 where
   pub due : x.time ≤ clock
-  pub first : All (λ y. earlier y x ≡ false) (contents c)
+  pub first : AllByRecursion (λ y. earlier y x ≡ false) (contents c)
   pub taken : queues.Taken x c.queue c'.queue
 
 -- None is due at the clock, and nothing changes.
 pub record NoneComes (clock : ℕ) (c c' : Coming) : Type 0 where
-  pub later : All (λ y. clock < y.time) (contents c)
+  pub later : AllByRecursion (λ y. clock < y.time) (contents c)
   pub same : queues.Unaltered c.queue c'.queue
 
 abbrev pub IsNext : ℕ → Coming → Coming → Option PlacedArrival → Type 0

@@ -10,7 +10,7 @@ use Rattle.std.proofs.lemmas.List.Sums.{sum_by-cons}
 use Rattle.std.proofs.lemmas.Bool.{cases_eq, cond-true, cond-false, eqb-true, eqb-false, eq-eqb, ne_eqb}
 use Rattle.std.proofs.lemmas.Bool.Decides.{nat_tests}
 use Rattle.std.specs.List.Sorted.{IsPermutation}
-use Rattle.std.specs.List.{ContainsAt as Has, AllByRecursion as All}
+use Rattle.std.specs.List.{ContainsAt, AllByRecursion}
 
 -- What a list holds of an entry.
 abbrev pub part : Entry → Slot
@@ -45,7 +45,7 @@ unseen (e ∷ es) row z =
     count_cons e es row ∙
     one_less (eqb e.row row) (part e) (entry_of es row) (count_of es row) z (unseen es row)
 
-none_of : (es : List Entry) (row : ℕ) → count_of es row ≡ 0 → All (λ x. x.row ≡ row → ⊥) es
+none_of : (es : List Entry) (row : ℕ) → count_of es row ≡ 0 → AllByRecursion (λ x. x.row ≡ row → ⊥) es
 none_of [] row z = tt
 none_of (e ∷ es) row z =
     let c = count_cons e es row in
@@ -67,7 +67,7 @@ most es row once = omega (arith, once row, at_most_one (outside row))
 
 -- Where no two have the row, any that has it is the one that is read.
 each :
-    (es : List Entry) (row : ℕ) → count_of es row ≤ 1 → All (λ x. x.row ≡ row → entry_of es row ≡ Some (part x)) es
+    (es : List Entry) (row : ℕ) → count_of es row ≤ 1 → AllByRecursion (λ x. x.row ≡ row → entry_of es row ≡ Some (part x)) es
 each [] row h = tt
 each (e ∷ es) row h =
     let c = count_cons e es row in (
@@ -76,25 +76,25 @@ each (e ∷ es) row h =
     )
   where
     at :
-        (b : Bool) → cond b 1 0 + count_of es row ≤ 1 → All (λ x. x.row ≡ row → entry_of es row ≡ Some (part x)) es →
-        All (λ x. x.row ≡ row → cond b (Some (part e)) (entry_of es row) ≡ Some (part x)) es
+        (b : Bool) → cond b 1 0 + count_of es row ≤ 1 → AllByRecursion (λ x. x.row ≡ row → entry_of es row ≡ Some (part x)) es →
+        AllByRecursion (λ x. x.row ≡ row → cond b (Some (part e)) (entry_of es row) ≡ Some (part x)) es
     at true h f = All-weaker _ _ (λ x n q. absurd (n q)) es (none_of es row (omega arith))
     at false h f = f
 
-pub found : (es : List Entry) (row : ℕ) (s : Slot) → entry_of es row ≡ Some s → Has es (entry row s)
+pub found : (es : List Entry) (row : ℕ) (s : Slot) → entry_of es row ≡ Some s → ContainsAt es (entry row s)
 found [] row s z = let q : ◌≡◌ {A = ℕ} 0 1 = cc in absurd (omega arith)
 found (e ∷ es) row s z = at (eqb e.row row) refl z (found es row s)
   where
     at :
         (b : Bool) → eqb e.row row ≡ b → cond b (Some (part e)) (entry_of es row) ≡ Some s →
-        (entry_of es row ≡ Some s → Has es (entry row s)) → Has (e ∷ es) (entry row s)
+        (entry_of es row ≡ Some s → ContainsAt es (entry row s)) → ContainsAt (e ∷ es) (entry row s)
     at true p z f =
         let q : part e ≡ s = cc in
         (0, omega arith, λ d. ap (λ r. entry r (part e)) (eqb-true e.row row p) ∙ ap (entry row) q)
     at false p z f = has_append_right (e ∷ []) es (entry row s) (f z)
 
 -- One that is there is read at its row.
-pub read : (es : List Entry) (x : Entry) → RowsOnce es → Has es x → entry_of es x.row ≡ Some (part x)
+pub read : (es : List Entry) (x : Entry) → RowsOnce es → ContainsAt es x → entry_of es x.row ≡ Some (part x)
 read es x once h =
     all-has (λ y. y.row ≡ x.row → entry_of es x.row ≡ Some (part y)) es x
     (each es x.row (most es x.row once)) h refl

@@ -2,7 +2,7 @@
 ghost use Rattle.std.specs.Prelude.{◌≡◌, ◌<◌, true, false, [], is_ok};
 ghost use Rattle.arrivals.specs.Coming.{contents, SomeDue, Comes, IsNext};
 ghost use Rattle.queue.specs.Contents.{lent, has_room, Adds};
-ghost use Rattle.std.specs.List.{AllByRecursion as All};
+ghost use Rattle.std.specs.List.{AllByRecursion};
 
 use crate::coming::Coming;
 use crate::order::PlacedArrival;
@@ -40,7 +40,7 @@ impl<'a> Coming<'a> {
     // Whether any is due at the clock.
     fn is_due(&self, clock: u32) -> bool
         ensures some { result ≡ true → SomeDue clock (contents self.now) }
-        ensures none { result ≡ false → All (λ y. clock < y.time) (contents self.now) }
+        ensures none { result ≡ false → AllByRecursion (λ y. clock < y.time) (contents self.now) }
     {
         match self.queue.first() {
             Some(first) => first.time <= clock,
