@@ -1,6 +1,6 @@
 -- What the fields of a line make of it.
-use Rattle.std.proofs.Common.{◌≡◌, ℕ, suc, false, eqb, ◌≢◌, ◌⊎◌, List, [], ◌∷◌, ◌++◌, length, Some, None, Option, sym, refl, ap, ◌∙◌, inl, inr, arith}
-use Rattle.session.specs.LineKinds.{AreNumbers, LineOf, Misshapen, NoNumbers}
+use Rattle.std.proofs.Common.{◌≡◌, ℕ, false, ◌≢◌, List, [], ◌∷◌, length, Some, None, Option, sym, ap, ◌∙◌, arith}
+use Rattle.session.specs.LineKinds.{AreNumbers, Misshapen}
 use Rattle.session.specs.Lines.{has, next_line}
 use Rattle.session.specs.Numbers.{number_in}
 use Rattle.std.proofs.lemmas.Bool.{eqb-false}
