@@ -10,7 +10,7 @@ use Rattle.feasibility.specs.declared.verdict.Verdict.{Verdict}
 use Rattle.feasibility.specs.declared.verdict.Verdict.TheVariants.{Fit, Overloaded, Blocked}
 use Rattle.std.proofs.lemmas.Bool.{and_parts, both_ways, cases_lt, eq-eqb, eqb-true, leb-true, ltb-true, not-true, or_cases}
 use Rattle.std.proofs.lemmas.Bool.Decides.{Decides-below_and}
-use Rattle.std.specs.List.{AllByRecursion as All}
+use Rattle.std.specs.List.{AllByRecursion}
 
 -- p holds of every number below n
 abbrev pub all< : ℕ → (ℕ → Bool) → Bool
@@ -202,7 +202,7 @@ test_shows c e =
       judged = right_shows c.rows c.hyperperiod c.verdict two.1;
     }
 
-tests_show : (cs : List Case) → tests cs ≡ true → All Stands cs
+tests_show : (cs : List Case) → tests cs ≡ true → AllByRecursion Stands cs
 tests_show [] e = tt
 tests_show (c ∷ cs) e =
     let both = and_parts (test c) (tests cs) e in (test_shows c both.0, tests_show cs both.1)

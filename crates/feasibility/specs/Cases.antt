@@ -7,7 +7,7 @@ use Rattle.feasibility.specs.Verdicts.{Judged}
 use Rattle.feasibility.specs.declared.row.Row.{Row}
 use Rattle.feasibility.specs.declared.verdict.Verdict.{Verdict}
 use Rattle.feasibility.specs.declared.verdict.Verdict.TheVariants.{Fit, Overloaded, Blocked}
-use Rattle.std.specs.List.{AllByRecursion as All}
+use Rattle.std.specs.List.{AllByRecursion}
 
 pub record Case : Type 0 where
   pub rows : List Row
@@ -50,7 +50,7 @@ pub record Stands (c : Case) : Type 0 where
   pub judged : Judged c.rows c.hyperperiod (told c.verdict)
 
 abbrev pub CasesStand : Type 0
-CasesStand = All Stands cases
+CasesStand = AllByRecursion Stands cases
 
 -- The table of the example session.
 abbrev pub case_j : Case

@@ -1,5 +1,5 @@
 -- Steps of the loops that find the next field, and what a line is before and after it.
-use Rattle.std.proofs.Common.{◌≡◌, ℕ, ◌+◌, ◌<◌, ◌≤◌, Bool, true, false, cond, eqb, ◌⊎◌, List, [], ◌∷◌, ◌++◌, length, get_or, drop, Some, None, Option, sym, refl, ap, ◌∙◌, subst, ap₂, inl, inr, append_assoc, append-nil, arith}
+use Rattle.std.proofs.Common.{◌≡◌, ℕ, ◌+◌, ◌<◌, ◌≤◌, Bool, true, false, cond, ◌⊎◌, List, [], ◌∷◌, ◌++◌, length, get_or, drop, Some, None, Option, sym, refl, ap, ◌∙◌, subst, ap₂, inl, inr, append_assoc, append-nil, arith}
 use Rattle.session.specs.Bytes.{is_space, is_feed, in_field}
 use Rattle.session.specs.Lines.{with_byte, first_line, ends_field, glued, fields, in_fields, next_line, with_field, has, NoField, OneMore}
 use Rattle.session.specs.Scans.{past_spaces, front_field, past_field, line_over}
@@ -72,26 +72,32 @@ module _
 abbrev pub in_line : List (List ℕ) → List ℕ → Option (List (List ℕ) × List ℕ)
 in_line fs rest = Some (fs, rest)
 
+pub same_parts :
+    {A B : Type 0} {a a' : A} {b b' : B} → ◌≡◌ {A = Option (A × B)} (Some (a, b)) (Some (a', b')) →
+    (a ≡ a') × (b ≡ b')
+same_parts {A} {B} {a} {a'} {b} {b'} e =
+    let p : ◌≡◌ {A = A × B} (a, b) (a', b') = cc in (ap (λ x. x.0) p, ap (λ x. x.1) p)
+
 -- the line, if there is one, begins with a space or is empty
-abbrev Ends : Option (List ℕ × List ℕ) → Type 0
+abbrev pub Ends : Option (List ℕ × List ℕ) → Type 0
 Ends None = Unit {0}
 Ends (Some p) = ends_field p.0 ≡ true
 
 -- a space is no line feed, and no byte of a field is either
-space_is : (b : ℕ) → is_space b ≡ true → is_feed b ≡ false
+pub space_is : (b : ℕ) → is_space b ≡ true → is_feed b ≡ false
 space_is b e = ne_eqb b 10 (λ f. bad (eqb-true b 32 e) f)
   where
     bad : b ≡ 32 → b ≡ 10 → ⊥
     bad p q = omega arith
 
-in_is : (b : ℕ) → in_field b ≡ true → (is_space b ≡ false) × (is_feed b ≡ false)
+pub in_is : (b : ℕ) → in_field b ≡ true → (is_space b ≡ false) × (is_feed b ≡ false)
 in_is b e = (grind (arith, nat_tests), grind (arith, nat_tests))
 
-not_in : (b : ℕ) → in_field b ≡ false → (is_space b ≡ true) ⊎ (is_feed b ≡ true)
+pub not_in : (b : ℕ) → in_field b ≡ false → (is_space b ≡ true) ⊎ (is_feed b ≡ true)
 not_in b e = grind (arith, nat_tests)
 
 -- spaces at the front of a line make no difference
-line_space : (b : ℕ) (bs : List ℕ) → is_space b ≡ true → next_line (b ∷ bs) ≡ next_line bs
+pub line_space : (b : ℕ) (bs : List ℕ) → is_space b ≡ true → next_line (b ∷ bs) ≡ next_line bs
 line_space b bs e =
     ap in_fields (cond-false (is_feed b) (Some ([], bs)) (with_byte b (first_line bs)) (space_is b e)) ∙
     at (first_line bs)
@@ -135,14 +141,6 @@ stop (b ∷ bs) o e = at (stop bs o) (cases_Bool (in_field b))
             spaced (Some p) = space
 
 -- a byte of a field, before the end of the field and before another byte of it
-fields_of : Option (List (List ℕ) × List ℕ) → List (List ℕ)
-fields_of None = []
-fields_of (Some p) = p.0
-
-rest_of : Option (List (List ℕ) × List ℕ) → List ℕ
-rest_of None = []
-rest_of (Some p) = p.1
-
 none_some : (p : List (List ℕ) × List ℕ) → ◌≡◌ {A = Option (List (List ℕ) × List ℕ)} None (Some p) → ⊥
 none_some p e = let z : ◌≡◌ {A = ℕ} 0 1 = cc in omega arith
 
@@ -150,26 +148,24 @@ module _ (b : ℕ) (inside : is_space b ≡ false) where
   glue : (bs : List ℕ) → fields (b ∷ bs) ≡ glued b (ends_field bs) (fields bs)
   glue bs = cond-false (is_space b) (fields bs) (glued b (ends_field bs) (fields bs)) inside
 
-  glue_last :
+  pub glue_last :
       (o : Option (List ℕ × List ℕ)) → Ends o → in_fields (with_byte b o) ≡ with_field (b ∷ []) (in_fields o)
   glue_last None ends = refl
   glue_last (Some p) ends =
       ap (λ fs. in_line fs p.1) (glue p.0 ∙ ap (λ t. glued b t (fields p.0)) ends)
 
-  glue_more :
+  pub glue_more :
       (c : ℕ) (f : List ℕ) (o : Option (List ℕ × List ℕ)) (n : Option (List (List ℕ) × List ℕ)) →
-      is_space c ≡ false → in_fields (with_byte c o) ≡ with_field (c ∷ f) n →
-      in_fields (with_byte b (with_byte c o)) ≡ with_field (b ∷ c ∷ f) n
-  unfolding fields_of rest_of
+      is_space c ≡ false → in_fields (with_byte c o) ≡ with_field f n →
+      in_fields (with_byte b (with_byte c o)) ≡ with_field (b ∷ f) n
   glue_more c f None None other e = refl
   glue_more c f None (Some n) other e = absurd (none_some _ e)
   glue_more c f (Some p) None other e = absurd (none_some _ (sym e))
   glue_more c f (Some p) (Some n) other e =
-      let now_fields : fields (c ∷ p.0) ≡ (c ∷ f) ∷ n.0 = ap fields_of e in
-      let now_rest : p.1 ≡ n.1 = ap rest_of e in
-      let is : fields (b ∷ c ∷ p.0) ≡ (b ∷ c ∷ f) ∷ n.0
-      = glue (c ∷ p.0) ∙ ap (λ t. glued b t (fields (c ∷ p.0))) other ∙ ap (glued b false) now_fields in
-      ap₂ in_line is now_rest
+      let same = same_parts e in
+      let is : fields (b ∷ c ∷ p.0) ≡ (b ∷ f) ∷ n.0
+      = glue (c ∷ p.0) ∙ ap (λ t. glued b t (fields (c ∷ p.0))) other ∙ ap (glued b false) same.0 in
+      ap₂ in_line is same.1
 
 -- what follows the first byte of a field
 inner :
@@ -194,7 +190,7 @@ inner b (c ∷ cs) t = by (inner c cs) (cases_Bool (in_field c))
         let past = cond-true (in_field c) (past_field cs) (c ∷ cs) u in
         ap (λ o. in_fields (with_byte b o))
         (cond-false (is_feed c) (Some ([], cs)) (with_byte c (first_line cs)) (in_is c u).1) ∙
-        glue_more b (in_is b t).0 c (front_field cs) (first_line cs) (next_line (past_field cs)) (in_is c u).0 (later u) ∙
+        glue_more b (in_is b t).0 c (c ∷ front_field cs) (first_line cs) (next_line (past_field cs)) (in_is c u).0 (later u) ∙
         ap₂ (λ fs ps. with_field (b ∷ fs) (next_line ps)) (sym front) (sym past)
 
 -- a line that begins with a field

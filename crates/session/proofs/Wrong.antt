@@ -3,6 +3,8 @@ use Rattle.std.proofs.Common.{◌≡◌, ℕ, ◌+◌, ◌≤◌, ◌≢◌, Lis
 use Rattle.feasibility.specs.declared.row.Row.{Row}
 use Rattle.session.specs.Limits.{max_arrivals, max_bytes, max_ticks}
 use Rattle.session.specs.Sections.{
+  row_of,
+  RowLine,
   LimitedHeading,
   WrongHeading,
   ArrivalsRead,
@@ -19,6 +21,12 @@ use Rattle.session.specs.Sessions.FirstWrong.{ticks, arrivals, arrival, more}
 use Rattle.session.specs.declared.arrival.Arrival.{Arrival}
 use Rattle.session.specs.declared.fault.LineFault.{LineFault}
 use Rattle.session.specs.declared.fault.LineFault.TheVariants.{Shape}
+use Rattle.std.proofs.lemmas.List.{length_push}
+
+-- a row line makes the table one row longer
+pub row_more :
+    {rows rows' : List Row} {bs rest : List ℕ} → RowLine rows bs rows' rest → length rows' ≡ length rows + 1
+row_more {rows} l = ap length l.taken.after ∙ length_push rows (row_of l.cost l.period l.store)
 
 pub placed :
     {bs : List ℕ} {e e' : LineFault} {line line' : ℕ} → FirstWrong bs e line → e' ≡ e → line' ≡ line →

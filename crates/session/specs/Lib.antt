@@ -6,6 +6,7 @@ pub mod Limits
 pub mod LineKinds
 pub mod Lines
 pub mod Numbers
+pub mod Places
 pub mod Reading
 pub mod Scans
 pub mod Sections

@@ -1,5 +1,5 @@
 -- What a session file means: a session, or the fault that comes first.
-use Rattle.std.specs.Prelude.{◌≡◌, ℕ, ◌+◌, ◌<◌, ◌≤◌, ◌≢◌, List, [], ◌∷◌, length, codes}
+use Rattle.std.specs.Prelude.{ℕ, ◌+◌, ◌<◌, ◌≤◌, ◌≢◌, List, [], ◌∷◌, length, codes}
 use Rattle.feasibility.specs.declared.row.Row.{Row}
 use Rattle.session.specs.Limits.{max_bytes, max_ticks, max_arrivals}
 use Rattle.session.specs.LineKinds.{LineOf, WrongLine}

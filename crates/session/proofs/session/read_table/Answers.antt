@@ -1,4 +1,3 @@
-use Rattle.feasibility.specs.Contents.{rows_of}
 use Rattle.session.proofs.Wrong.{placed}
 use Rattle.session.proofs.session.read_table.Goals as goal
 use Rattle.session.specs.LineKinds.{LineOf}

@@ -1,4 +1,4 @@
-use Rattle.std.proofs.Common.{◌≡◌, ◌<◌, [], length, drop, refl, ap, arith}
+use Rattle.std.proofs.Common.{length, refl, ap, arith}
 use Rattle.session.proofs.reader.Reader.end.Goals as goal
 use Rattle.std.proofs.lemmas.List.{drop_all, length-drop}
 

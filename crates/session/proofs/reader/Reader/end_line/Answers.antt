@@ -1,4 +1,4 @@
-use Rattle.std.proofs.Common.{◌≡◌, ◌+◌, ◌<◌, length, drop, sym, refl, ap, ◌∙◌, arith}
+use Rattle.std.proofs.Common.{◌<◌, length, sym, refl, ap, ◌∙◌, arith}
 use Rattle.session.proofs.Scanning.{line_ended}
 use Rattle.session.proofs.reader.Reader.end_line.Goals as goal
 use Rattle.session.specs.Lines.{has, next_line}
