@@ -1,4 +1,5 @@
-/* The call of the frame's host. Link with libsession.a, which `rt staticlib session` makes; it needs no runtime. */
+/* The call of the frame's host. Link with target/staticlib/libsession.a, which `host/run FILE` makes of the crate
+ * session_c; it needs no runtime. */
 #ifndef LOVAGETOWER_H
 #define LOVAGETOWER_H
 
