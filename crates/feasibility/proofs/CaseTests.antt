@@ -90,9 +90,9 @@ module _ (rows : List Row) where
   common_shows m e j l = eqb-true (m % (row_at rows j).period) 0 ((all<_at (length rows) _).0 e j l)
 
   shows_common : (m : ℕ) → Common rows m → common rows m ≡ true
-  shows_common m common-m =
+  shows_common m common_m =
       (all<_at (length rows) (λ j. eqb (m % (row_at rows j).period) 0)).1
-      (λ j l. eq-eqb (m % (row_at rows j).period) 0 (common-m j l))
+      (λ j l. eq-eqb (m % (row_at rows j).period) 0 (common_m j l))
 
   whole_shows : (h : ℕ) → whole rows h ≡ true → Hyperperiod rows h
   whole_shows h e = (ltb-true 0 h parts.0, common_shows h rest.0, λ m pos c. least m pos c (cases_lt m h))

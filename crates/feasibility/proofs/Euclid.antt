@@ -42,8 +42,8 @@ cancels_more a b r g is pos below s e =
 
 -- a over the greatest common divisor, times b, is the least common multiple
 pub least_common : (a b g : ℕ) → 0 < a → 0 < b → GreatestCommonDivisor a b g → LeastCommonMultiple a b (a / g * b)
-least_common a b g a-pos b-pos gcd = record {
-  positive = mul-pos over (b-pos);
+least_common a b g a_pos b_pos gcd = record {
+  positive = mul-pos over (b_pos);
   first = divided a (b / g) n (omega (arith, ap (λ x. a / g * x) b_is, ap (λ x. x * (b / g)) a_is));
   second = divided b (a / g) n (omega arith);
   least = lowest;
@@ -66,10 +66,10 @@ least_common a b g a-pos b-pos gcd = record {
         at (inr nz) = omega arith
 
     lowest : (m : ℕ) → 0 < m → m % a ≡ 0 → m % b ≡ 0 → n ≤ m
-    lowest m pos by-a by-b =
+    lowest m pos by_a by_b =
         let s : ℕ = m / a in
-        let m_is : a * s ≡ m = whole a m by-a in
-        let cut : (g * s) % b ≡ 0 = gcd.greatest s (ap (λ x. x % b) m_is ∙ by-b) in
+        let m_is : a * s ≡ m = whole a m by_a in
+        let cut : (g * s) % b ≡ 0 = gcd.greatest s (ap (λ x. x % b) m_is ∙ by_b) in
         let u : ℕ = (g * s) / b in
         let u_is : b * u ≡ g * s = whole b (g * s) cut in
         let one = ap (λ x. x * s) a_is in

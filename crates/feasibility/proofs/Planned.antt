@@ -80,7 +80,7 @@ module _ (rows : List Row) (asks : Requests) (bs : List Job) (ok : orderly rows 
       never x f = let z : ◌≡◌ {A = ℕ} 0 1 = cc in omega arith
 
   unshared : Unshared rows (planned bs) (length bs)
-  unshared t b other l e ne stored on-it = at (cases_eq (units (planned bs) other t) 0)
+  unshared t b other l e ne stored on_it = at (cases_eq (units (planned bs) other t) 0)
     where
       Done : Type 0
       Done = (units (planned bs) other t ≡ 0) ⊎ Finished rows (planned bs) other t
@@ -115,7 +115,7 @@ module _ (rows : List Row) (asks : Requests) (bs : List Job) (ok : orderly rows 
 
           stores_same : (row_at rows a.of).store ≡ (row_at rows c.of).store
           stores_same =
-              ap (λ j. (row_at rows j.of).store) a_is ∙ on-it ∙ ap (λ j. (row_at rows j.of).store) (sym c_is)
+              ap (λ j. (row_at rows j.of).store) a_is ∙ on_it ∙ ap (λ j. (row_at rows j.of).store) (sym c_is)
 
           by_rest : (elsewhere ≡ true) ⊎ (finished ≡ true) → Done
           by_rest (inl z) =

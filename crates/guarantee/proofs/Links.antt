@@ -28,10 +28,10 @@ use Rattle.std.proofs.lemmas.Bool.{both_ways, cases_eq, cases_lt}
 pub unserved :
     (rows : List Row) (h : History) (v : View) → Linked rows h v → (b : Job) (t : ℕ) →
     (Requested rows h.asks b → ⊥) → units h.plan b t ≡ 0
-unserved rows h v link b t no-request = at (cases_lt 0 (units h.plan b t))
+unserved rows h v link b t no_request = at (cases_lt 0 (units h.plan b t))
   where
     at : (0 < units h.plan b t) ⊎ (units h.plan b t ≤ 0) → units h.plan b t ≡ 0
-    at (inl more) = let x = some_unit h.plan b t more in absurd (no-request (link.served x.0 b x.2).1)
+    at (inl more) = let x = some_unit h.plan b t more in absurd (no_request (link.served x.0 b x.2).1)
     at (inr none) = omega arith
 
 -- no request is later than the clock, so the last ones stay as a tick ends

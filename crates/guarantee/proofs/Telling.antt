@@ -139,7 +139,7 @@ module _ (rows : List Row) (h : History) (s : State) (k : Seen rows h s) (row : 
   release_true =
       cond_both (not (option_is_some s.table)) (Some NoTable) _ Right (λ _. tt)
       (λ _. cond_both (not (option_is_some (row_in s row))) (Some UnknownRow) _ Right (λ _. tt)
-      (λ known-row. after_row (not_false (option_is_some (row_in s row)) known-row)))
+      (λ known_row. after_row (not_false (option_is_some (row_in s row)) known_row)))
     where
       after_row :
           option_is_some (row_in s row) ≡ true →

@@ -193,10 +193,10 @@ module _ (rows : List Row) (h : History) (s : State) (b : Between rows h s) wher
         rank :
             (j : ℕ) (a : Task) → j < length rows → (view rows s).task j ≡ Some a →
             (e.deadline ≤ a.deadline) × (e.deadline ≡ a.deadline → a.begun ≡ true → e.begun ≡ true)
-        rank j a l is-a =
+        rank j a l is_a =
             let z : j + 1 - 1 ≡ j = omega arith in
             let at : slot_at s j ≡ Some (slot a.deadline a.begun)
-            = joined_some (kept_at s j).job (slot_at s j) a is-a in
+            = joined_some (kept_at s j).job (slot_at s j) a is_a in
             let at' : slot_at s (j + 1 - 1) ≡ Some (slot a.deadline a.begun) = rw z at in
             ranked e.deadline a.deadline e.row (j + 1) e.begun a.begun
             (f.least (j + 1) (slot a.deadline a.begun) (omega arith) (omega (arith, b.few)) at')
@@ -206,8 +206,8 @@ module _ (rows : List Row) (h : History) (s : State) (b : Between rows h s) wher
             record {
               within = within;
               has = ap₂ joined job f.is;
-              first = λ j a l is-a. (rank j a l is-a).0;
-              ties = λ j a l is-a. (rank j a l is-a).1;
+              first = λ j a l is_a. (rank j a l is_a).0;
+              ties = λ j a l is_a. (rank j a l is_a).1;
               clock = refl;
               task = ap₂ (λ (k : RowState) x. joined k.job x) kept_here here ∙ is;
               task_else = λ j l ne. ap₂ (λ (k : RowState) x. joined k.job x) (kept_else j ne) (else' j ne);

@@ -2,7 +2,7 @@
 // order is kept. Which cell holds which element is free, and so is what a cell holds that is not in use.
 ghost use Rattle.std.specs.Prelude.{◌≡◌, [], length, is_ok};
 ghost use Rattle.queue.specs.Contents.{lent, contents, capacity, has_room, Adds, Takes, StaysHeaped};
-ghost use Rattle.queue.specs.Heaps.{Heaped, Is_at, IsFirst};
+ghost use Rattle.queue.specs.Heaps.{Heaped, IsAt, IsFirst};
 
 use crate::cells::{count, put, read, take_out, top};
 use crate::full::Full;
@@ -52,7 +52,7 @@ impl<'a, T: Order + Copy> Queue<'a, T> {
 
     // The element in a cell, if that cell is in use.
     pub fn at(&self, cell: usize) -> Option<T>
-        ensures { Is_at (contents self.now) cell result }
+        ensures { IsAt (contents self.now) cell result }
     {
         if cell < self.len() {
             return Some(read(self.cells, self.used, cell));
@@ -85,7 +85,7 @@ impl<'a, T: Order + Copy> Queue<'a, T> {
 
     // Takes the element in a cell out, if that cell is in use.
     pub fn take_at(&mut self, cell: usize) -> Option<T>
-        ensures answer { Is_at (contents self.old) cell result }
+        ensures answer { IsAt (contents self.old) cell result }
         ensures contents { Takes result self.old self.new }
         ensures order { StaysHeaped T.before self.old self.new }
     {
@@ -94,7 +94,7 @@ impl<'a, T: Order + Copy> Queue<'a, T> {
 
     // The same, and that cell 0 holds the first element.
     fn take_cell(&mut self, cell: usize) -> Option<T>
-        ensures answer { Is_at (contents self.old) cell result }
+        ensures answer { IsAt (contents self.old) cell result }
         ensures first { cell ≡ 0 → IsFirst T.before (contents self.old) result }
         ensures contents { Takes result self.old self.new }
         ensures order { StaysHeaped T.before self.old self.new }

@@ -1,7 +1,7 @@
 -- Entries in cells: which cell has a row's, and what a queue does to them.
 use Rattle.std.proofs.Common.{◌≡◌, ℕ, zero, suc, ◌+◌, ◌-◌, ◌<◌, ◌≤◌, true, false, eqb, List, [], ◌∷◌, length, get_or, set, is_some, is_ok, Some, None, Ok, Err, Option, Result, sym, refl, ap, ◌∙◌, inl, inr, arith}
 use Rattle.queue.specs.Contents.{lent, contents, capacity, has_room, Added, Taken, Adds, Takes}
-use Rattle.queue.specs.Heaps.{Is_at}
+use Rattle.queue.specs.Heaps.{IsAt}
 use Rattle.queue.specs.declared.full.Full.{Full}
 use Rattle.queue.specs.declared.queue.Queue.{Queue}
 use Rattle.ready.proofs.ByRows.{filled_by_row, filled_most, has_is}
@@ -108,7 +108,7 @@ added q q' e (Err x) a h f = let z : ◌≡◌ {A = ℕ} 0 1 = cc in absurd (ome
 
 -- What is in a cell that is in use is taken.
 pub taken :
-    (q q' : Queue Entry) (cell : ℕ) (r : Option Entry) → cell < length (contents q) → Is_at (contents q) cell r →
+    (q q' : Queue Entry) (cell : ℕ) (r : Option Entry) → cell < length (contents q) → IsAt (contents q) cell r →
     Takes r q q' → (x : Entry) × (row_at (contents q) cell ≡ x.row) × Taken x q q'
 taken q q' cell None h a f = absurd (omega arith)
 taken q q' cell (Some x) h a f = (x, row_read (contents q) cell x h a, f)
