@@ -68,28 +68,25 @@ const CASES: [Case<'static>; 9] = [
     ),
 ];
 
-// The table of the example session.
-const EXAMPLE: Case<'static> = (&[(1, 4, 0), (2, 6, 1), (2, 12, 1)], 12, 9, Verdict::Fit, 0);
-
-fn judges(rt: &impl Abort, case: Case) {
-    let (rows, hyperperiod, load, verdict, number) = case;
-    let table = sealed(rt, rows);
-    assert_eq!(rt; table.hyperperiod(), hyperperiod);
-    assert_eq!(rt; table.load(), load);
-    assert_eq!(rt; table.judge(), verdict);
-    assert_eq!(rt; table.judge().number(), number);
-}
-
 #[test]
 fn judges_the_cases(rt: HostRuntime) {
-    for case in CASES {
-        judges(&rt, case);
+    for (rows, hyperperiod, load, verdict, number) in CASES {
+        let table = sealed(&rt, rows);
+        assert_eq!(rt; table.hyperperiod(), hyperperiod);
+        assert_eq!(rt; table.load(), load);
+        assert_eq!(rt; table.judge(), verdict);
+        assert_eq!(rt; table.judge().number(), number);
     }
 }
 
+// The table of the example session.
 #[test]
 fn judges_the_example(rt: HostRuntime) {
-    judges(&rt, EXAMPLE);
+    let table = sealed(&rt, &[(1, 4, 0), (2, 6, 1), (2, 12, 1)]);
+    assert_eq!(rt; table.hyperperiod(), 12);
+    assert_eq!(rt; table.load(), 9);
+    assert_eq!(rt; table.judge(), Verdict::Fit);
+    assert_eq!(rt; table.judge().number(), 0);
 }
 
 // Of several faults the one that is tested first is told, and the draft stays as it was.
