@@ -1,7 +1,9 @@
 // The fields of a line, one after another.
 ghost use Rattle.std.specs.Prelude.{◌≡◌, ◌<◌, ◌≤◌, true, [], length, drop, IfSome, MatchOption};
 ghost use Rattle.std.specs.List.{between};
+ghost use Rattle.session.specs.Bytes.{is_space, in_field};
 ghost use Rattle.session.specs.Lines.{next_line, with_field};
+ghost use Rattle.session.specs.Places.{Run, FieldAt, OverAt};
 ghost use Rattle.session.specs.Reading.{left};
 ghost use Rattle.session.specs.Scans.{past_spaces, front_field, past_field, line_over};
 
@@ -25,6 +27,7 @@ impl<'a> Reader<'a> {
         ensures same { self.new.input.now ≡ self.old.input.now }
         ensures line { MatchOption result ((next_line (left self.new) ≡ next_line (left self.old)) × (line_over (left self.new) ≡ true)) (λ f. next_line (left self.old) ≡ with_field f.bytes.now (next_line (left self.new))) }
         ensures place { IfSome result (λ f. f.bytes.now ≡ between f.at self.new.at self.old.input.now) }
+        ensures stands { MatchOption result (OverAt self.old.input.now self.old.at self.new.at) (λ f. FieldAt self.old.input.now self.old.at f.at self.new.at f.bytes.now) }
     {
         let input = self.input;
         let (start, end) = field_bounds(input, self.at);
@@ -49,6 +52,7 @@ fn field_bounds(input: &[u8], from: usize) -> (usize, usize)
     ensures rest { drop result.1 input.now ≡ past_field (past_spaces (drop from input.now)) }
     ensures none { result.0 ≡ result.1 → (next_line (drop result.1 input.now) ≡ next_line (drop from input.now)) × (line_over (drop result.1 input.now) ≡ true) }
     ensures some { result.0 < result.1 → next_line (drop from input.now) ≡ with_field (between result.0 result.1 input.now) (next_line (drop result.1 input.now)) }
+    ensures runs { Run is_space input.now from result.0 × Run in_field input.now result.0 result.1 }
 {
     let start = field_start(input, from);
     let end = field_end(input, start);
@@ -60,6 +64,7 @@ fn field_start(input: &[u8], from: usize) -> usize
     requires { from ≤ length input.now }
     ensures within { (from ≤ result) × (result ≤ length input.now) }
     ensures rest { drop result input.now ≡ past_spaces (drop from input.now) }
+    ensures run { Run is_space input.now from result }
 {
     let mut i = from;
     while i < input.len() && goes_on(false, input[i]) {
@@ -74,6 +79,7 @@ fn field_end(input: &[u8], from: usize) -> usize
     ensures within { (from ≤ result) × (result ≤ length input.now) }
     ensures front { between from result input.now ≡ front_field (drop from input.now) }
     ensures rest { drop result input.now ≡ past_field (drop from input.now) }
+    ensures run { Run in_field input.now from result }
 {
     let mut i = from;
     while i < input.len() && goes_on(true, input[i]) {

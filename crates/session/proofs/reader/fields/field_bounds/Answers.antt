@@ -23,4 +23,5 @@ returns c =
       some =
           bounds_some xs c.args.from s.result e.result s.ensures.rest e.ensures.front e.ensures.rest
           e.ensures.within.1;
+      runs = (s.ensures.run, e.ensures.run);
     }

@@ -1,6 +1,6 @@
 use Rattle.session.proofs.Scanning.{skip_end, skip_more, skip_stop}
 use Rattle.session.proofs.reader.fields.field_start.Goals as goal
-use Rattle.std.proofs.Common.{sym, ◌∙◌, arith}
+use Rattle.std.proofs.Common.{sym, ◌∙◌, arith, rules}
 
 pub loop-i-preserved : goal.loop-i-preserved
 loop-i-preserved c =
@@ -8,6 +8,7 @@ loop-i-preserved c =
       omega arith,
       omega arith,
       sym (skip_more c.args.input.now c.loop-i.i c.loop-i-test.true is) ∙ c.loop-i.invariant.2,
+      search rules,
     )
 
 pub returns-else-goes_on : goal.returns-else-goes_on
@@ -17,10 +18,12 @@ returns-else-goes_on c =
       within = (c.loop-i.invariant.0, c.loop-i.invariant.1);
       rest =
           sym (skip_stop c.args.input.now c.loop-i.i c.loop-i-test.true is) ∙ c.loop-i.invariant.2;
+      run = search rules;
     }
 
 pub returns-after-loop-i : goal.returns-after-loop-i
 returns-after-loop-i c = record {
   within = (c.loop-i.invariant.0, c.loop-i.invariant.1);
   rest = sym (skip_end c.args.input.now c.loop-i.i c.loop-i-test.false) ∙ c.loop-i.invariant.2;
+  run = search rules;
 }
