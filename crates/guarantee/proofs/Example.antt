@@ -13,6 +13,7 @@ use Rattle.ready.specs.Limits.{max_row}
 use Rattle.ready.specs.Order.{before}
 use Rattle.ready.specs.declared.entry.Entry.{Entry}
 use Rattle.ready.specs.declared.entry.Slot.{Slot}
+use Rattle.std.proofs.lemmas.Bool.{not-true}
 
 -- whether an entry, if there is one, does not come before e
 abbrev behind : Option Slot → ℕ → Entry → Bool
@@ -21,10 +22,6 @@ behind (Some x) row e = not (before (entry row x) e)
 
 abbrev leads : Entries → Entry → Bool
 leads m e = all< max_row (λ k. behind (get_or m k None) (k + 1) e)
-
-not-true : (b : Bool) → not b ≡ true → b ≡ false
-not-true true p = cc
-not-true false p = refl
 
 -- a first entry, by a test
 first_shows :
