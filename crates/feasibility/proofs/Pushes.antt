@@ -1,7 +1,7 @@
 -- One row more at the end of a table.
-use Rattle.std.proofs.Common.{◌≡◌, ℕ, ◌+◌, ◌%◌, ◌<◌, ◌≤◌, cond, eqb, ◌⊎◌, List, [], ◌∷◌, ◌++◌, length, get_or, take, set, sym, refl, ap, ◌∙◌, subst, ap₂, inl, inr, mod-lt, arith}
+use Rattle.std.proofs.Common.{◌≡◌, ℕ, ◌+◌, ◌%◌, ◌<◌, ◌≤◌, min, cond, eqb, ◌⊎◌, Some, None, Option, MatchOption, List, [], ◌∷◌, ◌++◌, length, get_or, take, set, sym, refl, ap, ◌∙◌, subst, inl, inr, mod-lt, arith}
 use Rattle.feasibility.specs.Divisors.{LeastCommonMultiple}
-use Rattle.feasibility.specs.Tables.{row_at, blank, Limited, Sound, Common, Hyperperiod, lower, least_period}
+use Rattle.feasibility.specs.Tables.{row_at, blank, Limited, Sound, Common, Hyperperiod, lower, least_period, least_kept, LeastPeriods}
 use Rattle.feasibility.specs.declared.row.Row.{Row}
 use Rattle.std.proofs.lemmas.List.{get_or_append_left, get_or_push, get_or-set_same, get_or-set_other, length_push, take_more_set}
 use Rattle.std.proofs.lemmas.Bool.{cases_eq, cond-true, cond-false, eq-eqb, ne_eqb}
@@ -87,26 +87,41 @@ least_push (y ∷ xs) x r =
     ap (lower (cond (eqb y.store r) y.period 0)) (least_push xs x r) ∙
     lower_assoc (cond (eqb y.store r) y.period 0) (least_period xs r) (cond (eqb x.store r) x.period 0)
 
+-- a period that is kept where there is one
+kept : ℕ → Option ℕ
+kept p = cond (eqb p 0) None (Some p)
+
+-- n is kept where one row more has the period p, and q was the least before, if there was one
+kept_lower :
+    (q p n : ℕ) → 0 < p → MatchOption (kept q) (n ≡ p) (λ m. n ≡ min m p) → Some n ≡ kept (lower q p)
+unfolding kept
+kept_lower q p n some is = grind (arith, nat_tests)
+
 -- the least periods by store, with one row more
 pub least_with :
-    (least : List ℕ) (rows : List Row) (x : Row) → ((r : ℕ) → r ≤ 8 → get_or least r 0 ≡ least_period rows r) →
-    x.store < length least → (r : ℕ) → r ≤ 8 →
-    get_or (set least x.store (lower (get_or least x.store 0) x.period)) r 0 ≡ least_period (rows ++ x ∷ []) r
-least_with least rows x known room r l = at (cases_eq x.store r) ∙ sym (least_push rows x r)
+    (least : List (Option ℕ)) (rows : List Row) (x : Row) (n : ℕ) → LeastPeriods least rows → 0 < x.period →
+    x.store < length least → x.store ≤ 8 →
+    MatchOption (get_or least x.store None) (n ≡ x.period) (λ m. n ≡ min m x.period) →
+    LeastPeriods (set least x.store (Some n)) (rows ++ x ∷ [])
+unfolding kept
+least_with least rows x n known some room within is r l = at (cases_eq x.store r)
   where
-    new : ℕ
-    new = lower (get_or least x.store 0) x.period
-
-    Goal : Type 0
-    Goal =
-        get_or (set least x.store new) r 0 ≡
-        lower (least_period rows r) (cond (eqb x.store r) x.period 0)
-
-    at : (x.store ≡ r) ⊎ (x.store ≡ r → ⊥) → Goal
+    at :
+        (x.store ≡ r) ⊎ (x.store ≡ r → ⊥) →
+        get_or (set least x.store (Some n)) r None ≡ least_kept (rows ++ x ∷ []) r
     at (inl e) =
-        ap (λ i. get_or (set least x.store new) i 0) (sym e) ∙ get_or-set_same least x.store new 0 room ∙
-        ap₂ lower (ap (λ i. get_or least i 0) e ∙ known r l)
-        (sym (cond-true (eqb x.store r) x.period 0 (eq-eqb x.store r e)))
+        let here : MatchOption (kept (least_period rows x.store)) (n ≡ x.period) (λ m. n ≡ min m x.period)
+        = subst (λ o. MatchOption o (n ≡ x.period) (λ m. n ≡ min m x.period)) (known x.store within) is in
+        let last : least_period (rows ++ x ∷ []) x.store ≡ lower (least_period rows x.store) x.period
+        = least_push rows x x.store ∙
+        ap (lower (least_period rows x.store)) (cond-true (eqb x.store x.store) x.period 0 (eq-eqb x.store x.store refl)) in
+        ap (λ i. get_or (set least x.store (Some n)) i None) (sym e) ∙
+        get_or-set_same least x.store (Some n) None room ∙
+        kept_lower (least_period rows x.store) x.period n some here ∙ ap kept (sym last) ∙
+        ap (least_kept (rows ++ x ∷ [])) e
     at (inr ne) =
-        get_or-set_other least x.store r new 0 (λ e. ne (sym e)) ∙ known r l ∙ sym (lower_none (least_period rows r)) ∙
-        ap (lower (least_period rows r)) (sym (cond-false (eqb x.store r) x.period 0 (ne_eqb x.store r ne)))
+        let same : least_period (rows ++ x ∷ []) r ≡ least_period rows r
+        = least_push rows x r ∙
+        ap (lower (least_period rows r)) (cond-false (eqb x.store r) x.period 0 (ne_eqb x.store r ne)) ∙
+        lower_none (least_period rows r) in
+        get_or-set_other least x.store r (Some n) None (λ e. ne (sym e)) ∙ known r l ∙ ap kept (sym same)

@@ -1,6 +1,6 @@
 -- The least period of a store's users.
-use Rattle.std.proofs.Common.{◌≡◌, ℕ, zero, suc, ◌<◌, ◌≤◌, cond, eqb, ◌≢◌, ◌⊎◌, List, [], ◌∷◌, length, sym, ◌∙◌, inl, inr, arith}
-use Rattle.feasibility.specs.Tables.{row_at, Limited, Sound, lower, least_period, Least}
+use Rattle.std.proofs.Common.{◌≡◌, ℕ, zero, suc, ◌<◌, ◌≤◌, cond, eqb, ◌≢◌, ◌⊎◌, List, [], ◌∷◌, length, IfSome, Some, None, Option, MatchOption, sym, ◌∙◌, subst, inl, inr, arith}
+use Rattle.feasibility.specs.Tables.{row_at, Limited, Sound, lower, least_period, least_kept, Least, Unused}
 use Rattle.feasibility.specs.declared.row.Row.{Row}
 use Rattle.std.proofs.lemmas.Bool.{cases_eq, cond-true, cond-false, eq-eqb, ne_eqb}
 use Rattle.std.proofs.lemmas.Bool.Decides.{nat_tests}
@@ -48,7 +48,7 @@ first : (x : Row) (xs : List Row) → Sound (x ∷ xs) → Limited x
 first x xs sound = sound zero (omega arith)
 
 -- it is a period, so within the limit of one
-pub least_short : (rows : List Row) (r : ℕ) → Sound rows → least_period rows r ≤ 65535
+least_short : (rows : List Row) (r : ℕ) → Sound rows → least_period rows r ≤ 65535
 unfolding own
 least_short [] r sound = omega arith
 least_short (x ∷ xs) r sound =
@@ -104,9 +104,27 @@ least_law rows r sound some =
       least = λ j l e. (least_bound rows r sound j l e).1;
     }
 
-pub least_none :
+least_none :
     (rows : List Row) (r : ℕ) → Sound rows → least_period rows r ≡ 0 → (j : ℕ) → j < length rows → (row_at rows j).store ≢ r
 least_none rows r sound none j l e = bad (least_bound rows r sound j l e).0
   where
     bad : 1 ≤ least_period rows r → ⊥
     bad some = omega arith
+
+-- what is kept of a store: that it has no users, or the least of their periods, within the limit of one
+KeptLaw : List Row → ℕ → Option ℕ → Type 0
+KeptLaw rows r o = MatchOption o (Unused rows r) (λ p. Least rows r p) × IfSome o (λ p. p ≤ 65535)
+
+pub kept_law :
+    (rows : List Row) (r : ℕ) (o : Option ℕ) → Sound rows → o ≡ least_kept rows r →
+    MatchOption o (Unused rows r) (λ p. Least rows r p) × IfSome o (λ p. p ≤ 65535)
+unfolding KeptLaw
+kept_law rows r o sound is = subst (KeptLaw rows r) (sym is) (at (cases_eq (least_period rows r) 0))
+  where
+    at : (least_period rows r ≡ 0) ⊎ (least_period rows r ≡ 0 → ⊥) → KeptLaw rows r (least_kept rows r)
+    at (inl z) =
+        subst (KeptLaw rows r) (sym (cond-true (eqb (least_period rows r) 0) None (Some (least_period rows r)) (eq-eqb (least_period rows r) 0 z)))
+        (λ _. least_none rows r sound z, tt)
+    at (inr nz) =
+        subst (KeptLaw rows r) (sym (cond-false (eqb (least_period rows r) 0) None (Some (least_period rows r)) (ne_eqb (least_period rows r) 0 nz)))
+        (least_law rows r sound (omega arith), least_short rows r sound)

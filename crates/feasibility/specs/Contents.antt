@@ -1,7 +1,7 @@
 -- What a table holds.
-use Rattle.std.specs.Prelude.{ℕ, ◌-◌, cond, ◌&&◌, List, length, take, Some, None, Option, ◌==◌, nat_le, nat_lt}
+use Rattle.std.specs.Prelude.{ℕ, ◌-◌, cond, ◌&&◌, List, length, take, Some, None, Option, nat_le, nat_lt}
 use Rattle.feasibility.specs.Limits.{max_store}
-use Rattle.feasibility.specs.Tables.{row_at, least_period}
+use Rattle.feasibility.specs.Tables.{row_at, least_kept}
 use Rattle.feasibility.specs.declared.row.Row.{Row}
 use Rattle.feasibility.specs.declared.rows.Rows.{Rows}
 
@@ -19,5 +19,4 @@ numbered rows n = cond (nat_lt 0 n && nat_le n (length rows)) (Some (row_at rows
 
 -- The least period of the users of the store r, from 1 to 8, if it has any.
 abbrev pub least_told : List Row → ℕ → Option ℕ
-least_told rows r =
-    cond (nat_lt 0 r && nat_le r max_store) (cond (least_period rows r == 0) None (Some (least_period rows r))) None
+least_told rows r = cond (nat_lt 0 r && nat_le r max_store) (least_kept rows r) None

@@ -1,6 +1,6 @@
 -- A job table is the list of its rows in the order in which they were added. Places count from 0; the number by which
 -- a user names a row is its place + 1.
-use Rattle.std.specs.Prelude.{◌≡◌, ℕ, ◌*◌, ◌/◌, ◌%◌, ◌<◌, ◌≤◌, min, cond, ◌≢◌, List, [], ◌∷◌, length, ◌==◌, slice_index, slice_index_or}
+use Rattle.std.specs.Prelude.{◌≡◌, ℕ, ◌*◌, ◌/◌, ◌%◌, ◌<◌, ◌≤◌, min, cond, ◌≢◌, List, [], ◌∷◌, length, Some, None, Option, ◌==◌, slice_index_or}
 use Rattle.feasibility.specs.Limits.{max_period, max_store}
 use Rattle.feasibility.specs.Sums.{Σ<}
 use Rattle.feasibility.specs.declared.row.Row.{Row}
@@ -57,6 +57,10 @@ pub record Least (rows : List Row) (r p : ℕ) : Type 0 where
 abbrev pub Unused : List Row → ℕ → Type 0
 Unused rows r = r ≢ 0 → (j : ℕ) → j < length rows → (row_at rows j).store ≢ r
 
+-- The same if any does.
+abbrev pub least_kept : List Row → ℕ → Option ℕ
+least_kept rows r = cond (least_period rows r == 0) None (Some (least_period rows r))
+
 -- The least period of each store's users, by store; at 0 that of the rows that use none.
-abbrev pub LeastPeriods : List ℕ → List Row → Type 0
-LeastPeriods least rows = (r : ℕ) → r ≤ max_store → slice_index least r ≡ least_period rows r
+abbrev pub LeastPeriods : List (Option ℕ) → List Row → Type 0
+LeastPeriods least rows = (r : ℕ) → r ≤ max_store → slice_index_or least r None ≡ least_kept rows r

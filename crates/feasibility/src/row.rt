@@ -1,8 +1,9 @@
 // A row of the job table, and why a table refuses one.
-ghost use Rattle.std.specs.Prelude.{◌≡◌, ◌<◌, MatchResult};
+ghost use Rattle.std.specs.Prelude.{◌≡◌, ◌<◌, ◌≤◌, MatchResult};
 ghost use Rattle.feasibility.specs.Drafts.{own_fault};
 ghost use Rattle.feasibility.specs.Refusals.{refusal_number};
-ghost use Rattle.feasibility.specs.Tables.{Limited};
+ghost use Rattle.feasibility.specs.Tables.{Limited, share};
+ghost use Rattle.feasibility.specs.Verdicts.{demand};
 
 pub const MAX_ROWS: u32 = 32;
 
@@ -22,14 +23,14 @@ pub struct Row {
     pub store: u32,
 }
 
-// Why a table does not take a row.
+// Why a table does not take a row, with the number by which that is told.
 #[derive(Clone, Copy, PartialEq, Eq, Debug)]
 pub enum RowRefusal {
-    Cost,
-    Period,
-    Store,
-    Full,
-    Hyperperiod,
+    Cost = 1,
+    Period = 2,
+    Store = 3,
+    Full = 4,
+    Hyperperiod = 5,
 }
 
 impl Row {
@@ -48,6 +49,24 @@ impl Row {
         }
         Ok(())
     }
+
+    // The units that it asks for in one hyperperiod.
+    pub(crate) fn share(self, hyperperiod: u32) -> u32
+        requires { Limited self }
+        ensures value { result ≡ share self hyperperiod }
+        ensures bound { result ≤ hyperperiod }
+    {
+        self.cost * (hyperperiod / self.period)
+    }
+
+    // The units that its jobs ask for that are requested and due within `span` ticks.
+    pub(crate) fn demand(self, span: u32) -> u32
+        requires { Limited self }
+        ensures value { result ≡ demand self span }
+        ensures bound { result ≤ span }
+    {
+        span / self.period * self.cost
+    }
 }
 
 impl RowRefusal {
@@ -55,12 +74,6 @@ impl RowRefusal {
     pub fn number(self) -> u32
         ensures { result ≡ refusal_number self }
     {
-        match self {
-            RowRefusal::Cost => 1,
-            RowRefusal::Period => 2,
-            RowRefusal::Store => 3,
-            RowRefusal::Full => 4,
-            RowRefusal::Hyperperiod => 5,
-        }
+        self as u32
     }
 }

@@ -1,10 +1,10 @@
 // How rows come to be: none at first, then one after another.
-ghost use Rattle.std.specs.Prelude.{◌≡◌, ℕ, ◌<◌, ◌≤◌, List, [], ◌∷◌, ◌++◌, length, MatchResult, slice_set};
+ghost use Rattle.std.specs.Prelude.{◌≡◌, ℕ, ◌<◌, ◌≤◌, List, [], ◌∷◌, ◌++◌, length, MatchOption, MatchResult, min, slice_set};
 ghost use Rattle.feasibility.specs.Contents.{rows_of, hyperperiod_of};
 ghost use Rattle.feasibility.specs.Drafts.{IsTooLong};
 ghost use Rattle.feasibility.specs.Limits.{max_rows, max_store, max_hyperperiod};
 ghost use Rattle.feasibility.specs.Refusals.{refusal_number};
-ghost use Rattle.feasibility.specs.Tables.{Limited, Hyperperiod, lower, LeastPeriods};
+ghost use Rattle.feasibility.specs.Tables.{Limited, Hyperperiod, LeastPeriods};
 
 use crate::divisors::least_common_multiple;
 use crate::row::{MAX_HYPERPERIOD, Row, RowRefusal};
@@ -22,7 +22,7 @@ impl Rows {
             }; 32],
             count: 0,
             hyperperiod: 1,
-            least: [0; 9],
+            least: [None; 9],
         }
     }
 
@@ -64,21 +64,17 @@ fn place(cells: &mut [Row; 32], count: u32, row: Row)
 }
 
 // The least periods after one row more.
-fn note_period(least: &mut [u32; 9], row: Row)
-    requires { row.store ≤ max_store }
+fn note_period(least: &mut [Option<u32>; 9], row: Row)
+    requires { Limited row }
     ensures { (rows : List Row) → LeastPeriods least.old rows → LeastPeriods least.new (rows ++ row ∷ []) }
 {
     let store = row.store as usize;
-    least[store] = lower_of(least[store], row.period);
+    least[store] = Some(lower_of(least[store], row.period));
 }
 
-// The lower of two periods, where 0 stands for none.
-fn lower_of(p: u32, q: u32) -> u32
-    ensures { result ≡ lower p q }
+// The lower of the least period so far, if there is one, and another.
+fn lower_of(least: Option<u32>, period: u32) -> u32
+    ensures { MatchOption least (result ≡ period) (λ p. result ≡ min p period) }
 {
-    match (p, q) {
-        (0, _) => q,
-        (_, 0) => p,
-        _ => p.min(q),
-    }
+    least.map_or(period, |p| p.min(period))
 }

@@ -3,7 +3,7 @@ ghost use Rattle.std.specs.Prelude.{◌≡◌, ◌<◌, ◌≤◌, length, IfSom
 ghost use Rattle.feasibility.specs.Contents.{rows_of, hyperperiod_of, numbered, least_told};
 ghost use Rattle.feasibility.specs.Hopeless.{OverloadIsHopeless};
 ghost use Rattle.feasibility.specs.Limits.{max_rows, max_period, max_store, max_hyperperiod};
-ghost use Rattle.feasibility.specs.Tables.{Limited, Sound, Hyperperiod, share, least_period, Least, Unused, load_of};
+ghost use Rattle.feasibility.specs.Tables.{Limited, Sound, Hyperperiod, least_kept, Least, Unused, load_of};
 
 use crate::row::{MAX_STORE, Row};
 use crate::rows::Rows;
@@ -42,7 +42,7 @@ impl Rows {
         ensures value { result ≡ load_of (rows_of self.now) (hyperperiod_of self.now) }
         ensures worth { hyperperiod_of self.now < result → OverloadIsHopeless (rows_of self.now) (hyperperiod_of self.now) }
     {
-        sum_of_shares(self.as_slice(), self.hyperperiod)
+        self.sum_of_shares(self.hyperperiod)
     }
 
     // The least period among the rows that use a store from 1 to 8.
@@ -54,21 +54,29 @@ impl Rows {
         if store == 0 || store > MAX_STORE {
             return None;
         }
-        match self.kept_period(store) {
-            0 => None,
-            period => Some(period),
-        }
+        self.kept_period(store)
     }
 
-    // The least period that is kept for a store, 0 if no row uses it.
-    pub(crate) fn kept_period(&self, store: u32) -> u32
+    // The least period that is kept for a store, if a row uses it.
+    fn kept_period(&self, store: u32) -> Option<u32>
         requires { store ≤ max_store }
-        ensures value { result ≡ least_period (rows_of self.now) store }
-        ensures bound { result ≤ max_period }
-        ensures none { result ≡ 0 → Unused (rows_of self.now) store }
-        ensures some { 0 < result → Least (rows_of self.now) store result }
+        ensures value { result ≡ least_kept (rows_of self.now) store }
+        ensures law { MatchOption result (Unused (rows_of self.now) store) (λ p. Least (rows_of self.now) store p) }
+        ensures bound { IfSome result (λ p. p ≤ max_period) }
     {
         self.least[store as usize]
+    }
+
+    // Adds each row's share of a hyperperiod.
+    fn sum_of_shares(&self, hyperperiod: u32) -> u64
+        ensures value { result ≡ load_of (rows_of self.now) hyperperiod }
+        ensures worth { hyperperiod < result → OverloadIsHopeless (rows_of self.now) hyperperiod }
+    {
+        let mut sum: u64 = 0;
+        for row in self.as_slice() {
+            sum += u64::from(row.share(hyperperiod));
+        }
+        sum
     }
 
     pub(crate) fn as_slice(&self) -> &[Row]
@@ -78,27 +86,4 @@ impl Rows {
     {
         &self.cells[0..self.count as usize]
     }
-}
-
-// Adds each row's share of the hyperperiod.
-fn sum_of_shares(rows: &[Row], hyperperiod: u32) -> u64
-    requires sound { Sound rows.now }
-    requires few { length rows.now ≤ max_rows }
-    ensures value { result ≡ load_of rows.now hyperperiod }
-    ensures worth { hyperperiod < result → OverloadIsHopeless rows.now hyperperiod }
-{
-    let mut sum: u64 = 0;
-    for row in rows {
-        sum += u64::from(share_of(*row, hyperperiod));
-    }
-    sum
-}
-
-// The units that a row asks for in one hyperperiod.
-fn share_of(row: Row, hyperperiod: u32) -> u32
-    requires { Limited row }
-    ensures value { result ≡ share row hyperperiod }
-    ensures bound { result ≤ hyperperiod }
-{
-    row.cost * (hyperperiod / row.period)
 }

@@ -1,7 +1,7 @@
 use Rattle.feasibility.proofs.Pushes.{rows_after, sound_push}
 use Rattle.feasibility.proofs.rows.Rows.push.Goals as goal
 use Rattle.feasibility.specs.Contents.{rows_of}
-use Rattle.feasibility.specs.Tables.{Sound, Hyperperiod, least_period}
+use Rattle.feasibility.specs.Tables.{Sound, Hyperperiod, least_kept}
 use Rattle.std.proofs.lemmas.List.{length_push}
 use Rattle.std.proofs.Common.{length, sym, ap, ◌∙◌, subst, arith}
 
@@ -17,7 +17,7 @@ invariant_of-self c =
       exact = subst (λ xs. Hyperperiod xs c.args.hyperperiod) (sym rows) c.requires.exact;
       within = c.requires.within;
       shortest =
-          λ r l. c.note_period.ensures (rows_of s) s.shortest r l ∙ ap (λ xs. least_period xs r) (sym rows);
+          λ r l. c.note_period.ensures (rows_of s) s.shortest r l ∙ ap (λ xs. least_kept xs r) (sym rows);
     }
 
 pub returns : goal.returns
