@@ -1,4 +1,1 @@
-pub mod Decimals
-pub mod Joins
-pub mod Places
 pub mod Short

@@ -1,8 +1,11 @@
 -- What a call promises that writes a text at the front of the caller's bytes.
-use Rattle.std.specs.Prelude.{◌≡◌, ℕ, ◌<◌, ◌≤◌, max, List, length, take, Result, MatchResult}
+use Rattle.std.specs.Prelude.{◌≡◌, ℕ, ◌≤◌, ◌<◌, max, List, length, take, slice_index, Result, MatchResult}
 use Rattle.report.specs.Limits.{min_space}
-use Rattle.report.specs.Puts.{SameFrom}
 use Rattle.report.specs.declared.space.NoSpace.{NoSpace}
+
+-- From place n on, `after` is as `before` was.
+abbrev pub SameFrom : ℕ → List ℕ → List ℕ → Type 0
+SameFrom n before after = (k : ℕ) → n ≤ k → slice_index after k ≡ slice_index before k
 
 -- The bytes that a text needs: its length, but not below the least space.
 abbrev pub space_for : List ℕ → ℕ

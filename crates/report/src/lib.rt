@@ -2,9 +2,7 @@
 #![tactic(auto)]
 
 mod lines;
-mod put;
 mod space;
-mod widths;
 
 pub use lines::{fault_line, refusal_line, tick_line, verdict_line};
 pub use space::{MIN_SPACE, NoSpace};

@@ -1,16 +1,19 @@
 // A line is a word and its numbers, in decimal without leading zeros, with one space before each number and a line feed
 // at the end. A call that writes one answers its length, line feed included, and alters no byte after it; or it refuses
 // for want of space, and alters none.
-ghost use Rattle.std.specs.Prelude.{◌≤◌, [], ◌∷◌, length};
+ghost use Rattle.std.specs.Prelude.{◌≡◌, ◌≤◌, [], ◌∷◌, length};
 ghost use Rattle.feasibility.specs.Told.{told};
 ghost use Rattle.report.specs.Limits.{min_space};
 ghost use Rattle.report.specs.Lines.{line_of, verdict_text, fault_text, tick_text, refusal_text};
 ghost use Rattle.report.specs.Writes.{Writes, space_for};
 
-use crate::put::{put_byte, put_numbers, put_word};
 use crate::space::{MIN_SPACE, NoSpace};
-use crate::widths::line_length;
+use arrayvec::ArrayString;
 use feasibility::Verdict;
+use itoa::Buffer;
+
+// No line is longer: a word of 7 bytes, three numbers of 64 bits with a space before each, and a line feed.
+const MAX_LINE: usize = 71;
 
 // `verdict 0`, or the verdict's number and the two values that are told with it.
 pub fn verdict_line(out: &mut [u8], verdict: Verdict) -> Result<usize, NoSpace>
@@ -18,13 +21,13 @@ pub fn verdict_line(out: &mut [u8], verdict: Verdict) -> Result<usize, NoSpace>
 {
     let number = u64::from(verdict.number());
     match verdict {
-        Verdict::Fit => write_line(out, b"verdict", &[number]),
+        Verdict::Fit => write_line(out, "verdict", &[number]),
         Verdict::Overloaded { hyperperiod, load } => {
-            write_line(out, b"verdict", &[number, u64::from(hyperperiod), load])
+            write_line(out, "verdict", &[number, u64::from(hyperperiod), load])
         }
         Verdict::Blocked { row, length } => write_line(
             out,
-            b"verdict",
+            "verdict",
             &[number, u64::from(row), u64::from(length)],
         ),
     }
@@ -34,50 +37,56 @@ pub fn verdict_line(out: &mut [u8], verdict: Verdict) -> Result<usize, NoSpace>
 pub fn fault_line(out: &mut [u8], number: u32, line: u32, cause: u32) -> Result<usize, NoSpace>
     ensures { Writes min_space (fault_text number line cause) out.old out.new result }
 {
-    write_short_line(out, b"fault", number, line, cause)
+    write_short_line(out, "fault", [number, line, cause])
 }
 
 // `t`, the clock, the row and the state.
 pub fn tick_line(out: &mut [u8], clock: u32, row: u32, state: u32) -> Result<usize, NoSpace>
     ensures { Writes min_space (tick_text clock row state) out.old out.new result }
 {
-    write_short_line(out, b"t", clock, row, state)
+    write_short_line(out, "t", [clock, row, state])
 }
 
 // `no`, the time, the row and the number of the refusal.
 pub fn refusal_line(out: &mut [u8], time: u32, row: u32, refusal: u32) -> Result<usize, NoSpace>
     ensures { Writes min_space (refusal_text time row refusal) out.old out.new result }
 {
-    write_short_line(out, b"no", time, row, refusal)
+    write_short_line(out, "no", [time, row, refusal])
 }
 
 // A line of three numbers of 32 bits, which never needs more than the least space.
-fn write_short_line(
-    out: &mut [u8],
-    word: &[u8],
-    first: u32,
-    second: u32,
-    third: u32,
-) -> Result<usize, NoSpace>
+fn write_short_line(out: &mut [u8], word: &str, numbers: [u32; 3]) -> Result<usize, NoSpace>
     requires { length word.now ≤ 5 }
-    ensures { Writes min_space (line_of word.now (first ∷ second ∷ third ∷ [])) out.old out.new result }
+    ensures { Writes min_space (line_of word.now numbers) out.old out.new result }
 {
-    write_line(
-        out,
-        word,
-        &[u64::from(first), u64::from(second), u64::from(third)],
-    )
+    let [first, second, third] = numbers;
+    write_line(out, word, &[first.into(), second.into(), third.into()])
 }
 
 // A line, unless the space is below the least or below the line's length.
-fn write_line(out: &mut [u8], word: &[u8], numbers: &[u64]) -> Result<usize, NoSpace>
+fn write_line(out: &mut [u8], word: &str, numbers: &[u64]) -> Result<usize, NoSpace>
     requires { (length word.now ≤ 7) × (length numbers.now ≤ 3) }
     ensures { Writes (space_for (line_of word.now numbers.now)) (line_of word.now numbers.now) out.old out.new result }
 {
-    if out.len() < MIN_SPACE || out.len() < line_length(word, numbers) {
+    let line = line(word, numbers);
+    if out.len() < MIN_SPACE || out.len() < line.len() {
         return Err(NoSpace);
     }
-    let at = put_word(out, word);
-    let end = put_numbers(out, at, numbers);
-    Ok(put_byte(out, end, b'\n'))
+    out[..line.len()].copy_from_slice(line.as_str().as_bytes());
+    Ok(line.len())
+}
+
+// The text of a line.
+fn line(word: &str, numbers: &[u64]) -> ArrayString<MAX_LINE>
+    requires { (length word.now ≤ 7) × (length numbers.now ≤ 3) }
+    ensures { result.bytes ≡ line_of word.now numbers.now }
+{
+    let mut line = ArrayString::new();
+    line.push_str(word);
+    for n in numbers {
+        line.push_str(" ");
+        line.push_str(Buffer::new().format(*n));
+    }
+    line.push_str("\n");
+    line
 }
