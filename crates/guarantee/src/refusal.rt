@@ -1,29 +1,29 @@
-// Why a dispatcher refuses a call.
+// Why a dispatcher refuses a call, with the number by which that is told.
 ghost use Rattle.std.specs.Prelude.{◌≡◌};
 ghost use Rattle.guarantee.specs.Numbers.{refusal_number};
 
 #[derive(Clone, Copy, PartialEq, Eq, Debug)]
 pub enum Refusal {
     // A table is taken already.
-    TableTaken,
+    TableTaken = 8,
     // The ready list has an entry.
-    ListNotEmpty,
+    ListNotEmpty = 9,
     // The ready list has fewer cells than the table has rows.
-    CapacityBelowRows,
+    CapacityBelowRows = 10,
     // No table is taken yet.
-    NoTable,
+    NoTable = 11,
     // The table has no row of this number.
-    UnknownRow,
+    UnknownRow = 12,
     // A tick is open.
-    TickOpen,
+    TickOpen = 13,
     // The row's last request is less than its period ago.
-    TooEarly,
+    TooEarly = 14,
     // The row's earlier job is unfinished.
-    EarlierUnfinished,
+    EarlierUnfinished = 15,
     // No tick is open.
-    NoTickOpen,
+    NoTickOpen = 16,
     // The clock has reached its limit.
-    ClockAtLimit,
+    ClockAtLimit = 17,
 }
 
 impl Refusal {
@@ -31,17 +31,6 @@ impl Refusal {
     pub fn number(self) -> u32
         ensures { result ≡ refusal_number self }
     {
-        match self {
-            Refusal::TableTaken => 8,
-            Refusal::ListNotEmpty => 9,
-            Refusal::CapacityBelowRows => 10,
-            Refusal::NoTable => 11,
-            Refusal::UnknownRow => 12,
-            Refusal::TickOpen => 13,
-            Refusal::TooEarly => 14,
-            Refusal::EarlierUnfinished => 15,
-            Refusal::NoTickOpen => 16,
-            Refusal::ClockAtLimit => 17,
-        }
+        self as u32
     }
 }

@@ -23,14 +23,14 @@ pub struct RowState {
     pub job: Option<Pending>,
 }
 
-// What has become of a job at the end of a tick.
+// What has become of a job at the end of a tick, with the number by which that is told.
 #[derive(Clone, Copy, PartialEq, Eq, Debug)]
 pub enum JobState {
-    Unfinished,
+    Unfinished = 0,
     // Finished with the clock at most its due time.
-    InTime,
+    InTime = 1,
     // Finished later.
-    Late,
+    Late = 2,
 }
 
 impl JobState {
@@ -38,10 +38,6 @@ impl JobState {
     pub fn number(self) -> u32
         ensures { result ≡ state_number self }
     {
-        match self {
-            JobState::Unfinished => 0,
-            JobState::InTime => 1,
-            JobState::Late => 2,
-        }
+        self as u32
     }
 }
