@@ -1,3 +1,3 @@
 pub mod Admissions
-pub mod Dispatchers
+pub mod Tables
 pub mod Ticks

@@ -1,7 +1,7 @@
 // What each call of a dispatcher does.
 ghost use Rattle.std.specs.Prelude.{◌≡◌, ◌+◌, ◌≤◌, pos, ◌-ℤ◌, nat_lt};
 ghost use Rattle.dispatch.specs.Admissions.{admission};
-ghost use Rattle.dispatch.specs.Dispatchers.{state, table_rows};
+ghost use Rattle.dispatch.specs.Tables.{table_rows};
 ghost use Rattle.feasibility.specs.Contents.{numbered, least_told};
 ghost use Rattle.guarantee.specs.Limits.{max_clock};
 ghost use Rattle.guarantee.specs.States.{fresh};
@@ -24,7 +24,7 @@ pub(crate) enum Act {
 
 impl<L: ReadyList + Drop> Dispatcher<L> {
     pub(crate) fn unused(list: L) -> Dispatcher<L>
-        ensures { state L.entries L.cells result ≡ fresh (L.entries list) (L.cells list) }
+        ensures { result ≡ fresh (L.entries list) (L.cells list) }
     {
         let unasked = RowState {
             last: None,
@@ -40,7 +40,7 @@ impl<L: ReadyList + Drop> Dispatcher<L> {
     }
 
     pub(crate) fn take_step(&mut self, table: &Table) -> Result<(), Refusal>
-        ensures { Step (state L.entries L.cells self.old) (Take (table_rows table.now)) result (state L.entries L.cells self.new) }
+        ensures { Step self.old (Take (table_rows table.now)) result self.new }
     {
         if let Some(_) = self.table {
             return Err(Refusal::TableTaken);
@@ -56,7 +56,7 @@ impl<L: ReadyList + Drop> Dispatcher<L> {
     }
 
     pub(crate) fn release_step(&mut self, row: u32) -> Result<(), Refusal>
-        ensures { Step (state L.entries L.cells self.old) (Release row) result (state L.entries L.cells self.new) }
+        ensures { Step self.old (Release row) result self.new }
     {
         let Some(table) = &self.table else {
             return Err(Refusal::NoTable);
@@ -88,7 +88,7 @@ impl<L: ReadyList + Drop> Dispatcher<L> {
     }
 
     pub(crate) fn begin_step(&mut self) -> Result<u32, Refusal>
-        ensures { Step (state L.entries L.cells self.old) Begin result (state L.entries L.cells self.new) }
+        ensures { Step self.old Begin result self.new }
     {
         let Some(table) = &self.table else {
             return Err(Refusal::NoTable);
@@ -112,7 +112,7 @@ impl<L: ReadyList + Drop> Dispatcher<L> {
     }
 
     pub(crate) fn end_step(&mut self) -> Result<(u32, JobState), Refusal>
-        ensures { Step (state L.entries L.cells self.old) End result (state L.entries L.cells self.new) }
+        ensures { Step self.old End result self.new }
     {
         if let None = self.table {
             return Err(Refusal::NoTable);
@@ -151,7 +151,7 @@ impl<L: ReadyList + Drop> Dispatcher<L> {
     }
 
     pub(crate) fn spare_step(&self, row: u32) -> Result<Option<i64>, Refusal>
-        ensures { Step (state L.entries L.cells self.now) (Spare row) result (state L.entries L.cells self.now) }
+        ensures { Step self.now (Spare row) result self.now }
     {
         let Some(table) = &self.table else {
             return Err(Refusal::NoTable);
