@@ -31,16 +31,14 @@ pub struct Dispatcher<L: ReadyList + Drop> {
 impl<L: ReadyList + Drop> Model for Dispatcher<L> {
     ghost Value = { State };
 
-    ghost view = {
-        λ d. record {
-            clock = d.clock;
-            table = option_map table_rows d.table;
-            tick = d.tick;
-            states = d.states;
-            entries = L.entries d.list;
-            cells = L.cells d.list;
-        }
-    };
+    ghost view = { λ d. record {
+      clock = d.clock;
+      table = option_map table_rows d.table;
+      tick = d.tick;
+      states = d.states;
+      entries = L.entries d.list;
+      cells = L.cells d.list;
+    } };
 
     ghost invariant = { λ d. (d.clock + ticks_open d.tick ≤ max_clock) × (length d.states ≡ max_row) × (tick_row d.tick ≤ max_row) };
 }

@@ -42,7 +42,7 @@ impl<L: ReadyList + Drop> Dispatcher<L> {
     pub(crate) fn take_step(&mut self, table: &Table) -> Result<(), Refusal>
         ensures { Step self.old (Take (table_rows table.now)) result self.new }
     {
-        if let Some(_) = self.table {
+        if self.table.is_some() {
             return Err(Refusal::TableTaken);
         }
         if self.list.count() != 0 {
@@ -67,12 +67,14 @@ impl<L: ReadyList + Drop> Dispatcher<L> {
         admit(self.tick, Act::Release)?;
         let place = row as usize - 1;
         let before = self.states[place];
-        if let Some(last) = before.last {
-            if is_early(self.clock, last, line.period) {
-                return Err(Refusal::TooEarly);
-            }
+        let clock = self.clock;
+        if before
+            .last
+            .is_some_and(|last| is_early(clock, last, line.period))
+        {
+            return Err(Refusal::TooEarly);
         }
-        if let Some(_) = before.job {
+        if before.job.is_some() {
             return Err(Refusal::EarlierUnfinished);
         }
         let due = self.clock + line.period;
@@ -114,7 +116,7 @@ impl<L: ReadyList + Drop> Dispatcher<L> {
     pub(crate) fn end_step(&mut self) -> Result<(u32, JobState), Refusal>
         ensures { Step self.old End result self.new }
     {
-        if let None = self.table {
+        if self.table.is_none() {
             return Err(Refusal::NoTable);
         }
         let row = admit(self.tick, Act::End)?;
@@ -124,24 +126,17 @@ impl<L: ReadyList + Drop> Dispatcher<L> {
             return Ok((0, JobState::Unfinished));
         }
         let served = row as usize - 1;
-        let before = self.states[served];
-        let Some(job) = before.job else {
+        let Some(job) = self.states[served].job else {
             return Ok((row, JobState::Unfinished));
         };
         if job.left > 1 {
-            self.states[served] = RowState {
-                last: before.last,
-                job: Some(Pending {
-                    due: job.due,
-                    left: job.left - 1,
-                }),
-            };
+            self.states[served].job = Some(Pending {
+                left: job.left - 1,
+                ..job
+            });
             return Ok((row, JobState::Unfinished));
         }
-        self.states[served] = RowState {
-            last: before.last,
-            job: None,
-        };
+        self.states[served].job = None;
         let _ = self.list.remove(row);
         if self.clock <= job.due {
             Ok((row, JobState::InTime))
@@ -199,11 +194,10 @@ fn begun_deadline(table: &Table, clock: u32, first: Entry) -> u32
     requires { clock ≤ max_clock }
     ensures { result ≡ lowered clock first.deadline (least_told (table_rows table.now) (known (numbered (table_rows table.now) first.row)).store) }
 {
-    let store = match table.row(first.row) {
-        Some(line) => line.store,
-        None => 0,
-    };
-    match table.least_period(store) {
+    let least = table
+        .row(first.row)
+        .and_then(|line| table.least_period(line.store));
+    match least {
         Some(period) => first.deadline.min(clock + 1 + period),
         None => first.deadline,
     }
