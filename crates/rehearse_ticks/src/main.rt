@@ -2,55 +2,42 @@
 // file.
 #![tactic(auto)]
 
-ghost use Rattle.std.specs.Prelude.{◌≤◌, length, IfOk};
-
-use report::{MIN_SPACE, fault_line, verdict_line};
+use arrayvec::ArrayVec;
+use ready::{Entry, HeapList};
+use report::{fault_line, verdict_line};
 use session::read;
 use std::io;
 use std::io::Read;
 
+mod print;
 mod run;
 
-use ready::{Entry, HeapList};
-use run::{print, run};
+use print::print;
+use run::run;
 
 // One byte more than the longest session, so that a file that is too long is seen without reading it to its end.
 const INPUT_SPACE: usize = 16_385;
 
+// What stands in a cell of the ready list before its first entry.
+const NO_ENTRY: Entry = Entry {
+    row: 0,
+    deadline: 0,
+    begun: false,
+};
+
 fn main(rt: HostRuntime) -> io::Result<()> {
-    let mut input = [0; INPUT_SPACE];
-    let length = fill(&mut rt.stdin(), &mut input)?;
+    let mut input = ArrayVec::<u8, INPUT_SPACE>::new();
+    io::copy(&mut rt.stdin().take(INPUT_SPACE as u64), &mut input)?;
     let mut out = rt.stdout();
-    let mut line = [0; MIN_SPACE];
-    match read(&input[0..length]) {
+    match read(&input) {
         Ok(session) => {
-            let written = verdict_line(&mut line, session.table.judge());
-            print(&mut out, &line, written)?;
-            let mut cells = [Entry {
-                row: 0,
-                deadline: 0,
-                begun: false,
-            }; 32];
+            let verdict = session.table.judge();
+            print(&mut out, |line| verdict_line(line, verdict))?;
+            let mut cells = [NO_ENTRY; 32];
             run(HeapList::new(&mut cells), &session, &mut out)
         }
-        Err(fault) => {
-            let written = fault_line(&mut line, fault.number(), fault.line(), fault.cause());
-            print(&mut out, &line, written)
-        }
+        Err(fault) => print(&mut out, |line| {
+            fault_line(line, fault.number(), fault.line(), fault.cause())
+        }),
     }
-}
-
-// Reads until the input ends or the space is full, and answers how much was read.
-fn fill<R: Read>(input: &mut R, space: &mut [u8]) -> io::Result<usize>
-    ensures { IfOk result (λ n. n ≤ length space.old) }
-{
-    let mut at = 0;
-    for _ in 0..space.len() {
-        let more = input.read(&mut space[at..])?;
-        if more == 0 {
-            break;
-        }
-        at += more;
-    }
-    Ok(at)
 }

@@ -1,11 +1,19 @@
 // A session's run: at each tick the arrivals that are due are released, then the tick is begun and ended.
+use crate::print::print;
 use arrivals::{Coming, PlacedArrival};
 use dispatch::{Dispatcher, JobState, Refusal};
 use ready::ReadyList;
-use report::{MIN_SPACE, NoSpace, refusal_line, tick_line};
+use report::{refusal_line, tick_line};
 use session::{Arrival, Session};
 use std::io;
 use std::io::Write;
+
+// What stands in a cell of the queue before its first arrival.
+const NO_ARRIVAL: PlacedArrival = PlacedArrival {
+    time: 0,
+    row: 0,
+    place: 0,
+};
 
 pub(crate) fn run<L: ReadyList + Drop, W: Write>(
     list: L,
@@ -13,22 +21,16 @@ pub(crate) fn run<L: ReadyList + Drop, W: Write>(
     out: &mut W,
 ) -> io::Result<()> {
     let mut dispatcher = Dispatcher::new(list);
-    if let Err(_) = dispatcher.take(&session.table) {
+    if dispatcher.take(&session.table).is_err() {
         return Ok(());
     }
-    let mut cells = [PlacedArrival {
-        time: 0,
-        row: 0,
-        place: 0,
-    }; 256];
+    let mut cells = [NO_ARRIVAL; 256];
     let mut coming = Coming::new(&mut cells);
     expect(&mut coming, session.arrivals.as_slice());
     for clock in 0..session.ticks {
         release_due(&mut dispatcher, &mut coming, clock, out)?;
         if let Ok((row, state)) = tick(&mut dispatcher) {
-            let mut line = [0; MIN_SPACE];
-            let written = tick_line(&mut line, clock, row, state.number());
-            print(out, &line, written)?;
+            print(out, |line| tick_line(line, clock, row, state.number()))?;
         }
     }
     Ok(())
@@ -36,14 +38,12 @@ pub(crate) fn run<L: ReadyList + Drop, W: Write>(
 
 // All arrivals are to come; each has its place in the file. There is a cell for each that a session can have.
 fn expect(coming: &mut Coming, arrivals: &[Arrival]) {
-    let mut place = 0u32;
-    for arrival in arrivals {
+    for (place, arrival) in (0..).zip(arrivals) {
         let _ = coming.add(PlacedArrival {
             time: arrival.time,
             row: arrival.row,
             place,
         });
-        place = place.saturating_add(1);
     }
 }
 
@@ -54,14 +54,11 @@ fn release_due<L: ReadyList + Drop, W: Write>(
     clock: u32,
     out: &mut W,
 ) -> io::Result<()> {
-    for _ in 0..256 {
-        let Some(arrival) = coming.take_due(clock) else {
-            break;
-        };
+    while let Some(arrival) = coming.take_due(clock) {
         if let Err(refusal) = dispatcher.release(arrival.row) {
-            let mut line = [0; MIN_SPACE];
-            let written = refusal_line(&mut line, clock, arrival.row, refusal.number());
-            print(out, &line, written)?;
+            print(out, |line| {
+                refusal_line(line, clock, arrival.row, refusal.number())
+            })?;
         }
     }
     Ok(())
@@ -71,16 +68,4 @@ fn release_due<L: ReadyList + Drop, W: Write>(
 fn tick<L: ReadyList + Drop>(dispatcher: &mut Dispatcher<L>) -> Result<(u32, JobState), Refusal> {
     dispatcher.begin()?;
     dispatcher.end()
-}
-
-// Prints a line that was written into these bytes.
-pub(crate) fn print<W: Write>(
-    out: &mut W,
-    line: &[u8],
-    written: Result<usize, NoSpace>,
-) -> io::Result<()> {
-    match written {
-        Ok(end) if end <= line.len() => out.write_all(&line[0..end]),
-        _ => Ok(()),
-    }
 }
