@@ -1,6 +1,6 @@
 // The dispatcher: each call in each state of the tick, and whole runs.
 use crate::tables::sealed;
-use dispatch::Dispatcher;
+use dispatch::{Dispatcher, Refusal};
 use feasibility::Table;
 use ready::{Entry, FlatList, HeapList, ReadyList};
 use std::process::Abort;
@@ -13,7 +13,7 @@ enum Call {
     End,
 }
 
-// An answer by its numbers: the row and the state, 0 where there is none, or the refusal.
+// An answer by its numbers: the row and the state, 0 where a call answers none, or the refusal.
 type Answer = Result<(u32, u32), u32>;
 
 const DONE: Answer = Ok((0, 0));
@@ -23,38 +23,13 @@ fn answer<L: ReadyList + Drop>(
     table: &Table,
     call: Call,
 ) -> Answer {
-    let answer = match call {
-        Call::Take => dispatcher.take(table),
-        Call::Release(row) => dispatcher.release(row),
-        Call::Begin => return begun(dispatcher),
-        Call::End => return ended(dispatcher),
-    };
-    match answer {
-        Ok(()) => DONE,
-        Err(refusal) => Err(refusal.number()),
+    match call {
+        Call::Take => dispatcher.take(table).map(|()| (0, 0)),
+        Call::Release(row) => dispatcher.release(row).map(|()| (0, 0)),
+        Call::Begin => dispatcher.begin().map(|row| (row, 0)),
+        Call::End => dispatcher.end().map(|(row, state)| (row, state.number())),
     }
-}
-
-fn begun<L: ReadyList + Drop>(dispatcher: &mut Dispatcher<L>) -> Answer {
-    match dispatcher.begin() {
-        Ok(row) => Ok((row, 0)),
-        Err(refusal) => Err(refusal.number()),
-    }
-}
-
-fn ended<L: ReadyList + Drop>(dispatcher: &mut Dispatcher<L>) -> Answer {
-    match dispatcher.end() {
-        Ok((row, state)) => Ok((row, state.number())),
-        Err(refusal) => Err(refusal.number()),
-    }
-}
-
-// The spare time of a row, or the number by which the question is refused.
-fn spare<L: ReadyList + Drop>(dispatcher: &Dispatcher<L>, row: u32) -> Result<Option<i64>, u32> {
-    match dispatcher.spare(row) {
-        Ok(time) => Ok(time),
-        Err(refusal) => Err(refusal.number()),
-    }
+    .map_err(Refusal::number)
 }
 
 fn follows<L: ReadyList + Drop>(
@@ -185,8 +160,7 @@ fn refuses_a_list_that_is_not_empty(rt: HostRuntime) {
 const OVERLOADED: [(u32, u32, u32); 4] = [(1, 2, 0), (1, 3, 0), (1, 6, 0), (1, 6, 0)];
 
 fn release_all<L: ReadyList + Drop>(rt: &impl Abort, dispatcher: &mut Dispatcher<L>, clock: u32) {
-    for row in 1..5u32 {
-        let (_, period, _) = OVERLOADED[row as usize - 1];
+    for (row, (_, period, _)) in (1..).zip(OVERLOADED) {
         if period > 0 && clock % period == 0 {
             let late = clock == 6 && row == 4;
             assert_eq!(rt; dispatcher.release(row).is_err(), late);
@@ -198,20 +172,26 @@ fn release_all<L: ReadyList + Drop>(rt: &impl Abort, dispatcher: &mut Dispatcher
 fn runs_late<L: ReadyList + Drop>(rt: &impl Abort, list: L) {
     let table = sealed(rt, &OVERLOADED);
     let mut dispatcher = Dispatcher::new(list);
-    assert_eq!(rt; spare(&dispatcher, 1), Err(11));
+    assert_eq!(rt; dispatcher.spare(1).map_err(Refusal::number), Err(11));
     assert_eq!(rt; answer(&mut dispatcher, &table, Call::Take), DONE);
-    assert_eq!(rt; spare(&dispatcher, 4), Ok(None));
+    assert_eq!(rt; dispatcher.spare(4).map_err(Refusal::number), Ok(None));
     let ticks = [(1, 1), (2, 1), (1, 1), (2, 1), (1, 1), (3, 1), (4, 2)];
-    for clock in 0..7u32 {
+    for (clock, (row, state)) in (0..).zip(ticks) {
         release_all(rt, &mut dispatcher, clock);
-        assert_eq!(rt; spare(&dispatcher, 4), Ok(Some(5 - i64::from(clock))));
-        assert_eq!(rt; begun(&mut dispatcher), Ok((ticks[clock as usize].0, 0)));
-        assert_eq!(rt; ended(&mut dispatcher), Ok(ticks[clock as usize]));
+        assert_eq!(rt;
+            dispatcher.spare(4).map_err(Refusal::number),
+            Ok(Some(5 - i64::from(clock)))
+        );
+        assert_eq!(rt; answer(&mut dispatcher, &table, Call::Begin), Ok((row, 0)));
+        assert_eq!(rt;
+            answer(&mut dispatcher, &table, Call::End),
+            Ok((row, state))
+        );
     }
     assert_eq!(rt; answer(&mut dispatcher, &table, Call::Release(4)), DONE);
     assert_eq!(rt; answer(&mut dispatcher, &table, Call::Release(3)), Err(14));
-    assert_eq!(rt; spare(&dispatcher, 5), Err(12));
-    assert_eq!(rt; spare(&dispatcher, 0), Err(12));
+    assert_eq!(rt; dispatcher.spare(5).map_err(Refusal::number), Err(12));
+    assert_eq!(rt; dispatcher.spare(0).map_err(Refusal::number), Err(12));
 }
 
 // A begun job keeps its tick against a newcomer with the same deadline, and is late; meanwhile both rows are asked for

@@ -1,22 +1,23 @@
 // Session files: what is read, and the fault that is told of each that is wrong.
 use session::host::lovagetower_judge;
 use session::{Arrival, Session, read};
+use std::alloc::AllocError;
 use std::process::Abort;
 use std::test::Fail;
 
-// Number, line and cause of a fault; all 0 for a session.
-fn told(bytes: &[u8]) -> (u32, u32, u32) {
+// Number, line and cause of a fault.
+type Told = (u32, u32, u32);
+
+// That a file is a session, or the fault that is told of it.
+fn answer(bytes: &[u8]) -> Result<(), Told> {
     match read(bytes) {
-        Ok(_) => (0, 0, 0),
-        Err(fault) => (fault.number(), fault.line(), fault.cause()),
+        Ok(_) => Ok(()),
+        Err(fault) => Err((fault.number(), fault.line(), fault.cause())),
     }
 }
 
 fn good(bytes: &[u8]) -> Result<Session, Fail> {
-    match read(bytes) {
-        Ok(session) => Ok(session),
-        Err(_) => Err(Fail::new("a good session is refused")),
-    }
+    read(bytes).map_err(|_| Fail::new("a good session is refused"))
 }
 
 #[test]
@@ -49,14 +50,14 @@ const GOOD: [&[u8]; 6] = [
 #[test]
 fn reads_good_sessions(rt: HostRuntime) {
     for text in GOOD {
-        assert_eq!(rt; told(text), (0, 0, 0));
+        assert_eq!(rt; answer(text), Ok(()));
     }
     assert_eq!(rt; lovagetower_judge(GOOD[4]), 7);
     assert_eq!(rt; lovagetower_judge(GOOD[5]), 6);
 }
 
 // The text of a file, and the fault that is told of it.
-type Case<'a> = (&'a [u8], (u32, u32, u32));
+type Case<'a> = (&'a [u8], Told);
 
 const HEADINGS: [Case<'static>; 18] = [
     (b"", (24, 1, 0)),
@@ -156,7 +157,7 @@ const REST: [Case<'static>; 26] = [
 
 fn check_all(rt: &impl Abort, cases: &[Case]) {
     for (text, fault) in cases {
-        assert_eq!(rt; told(text), *fault);
+        assert_eq!(rt; answer(text), Err(*fault));
         assert_eq!(rt; lovagetower_judge(text), fault.0);
     }
 }
@@ -176,43 +177,28 @@ fn names_the_faults_of_the_rest(rt: HostRuntime) {
     check_all(&rt, &REST);
 }
 
-// Writes a part into a text, as far as it has room.
-fn put(text: &mut [u8], at: usize, part: &[u8]) {
-    for (i, byte) in part.iter().enumerate() {
-        let place = at.saturating_add(i);
-        if place < text.len() {
-            text[place] = *byte;
-        }
-    }
-}
-
-fn put_rows(text: &mut [u8], count: usize) {
-    let mut at = 8;
-    for _ in 0..count {
-        put(text, at, b"1 1 0\n");
-        at = at.saturating_add(6);
-    }
-}
-
 // The 33rd row is refused by the table.
 #[test]
-fn takes_32_rows(rt: HostRuntime) {
-    let mut text = [b' '; 256];
-    put(&mut text, 0, b"rows 33\n");
-    put_rows(&mut text, 33);
-    assert_eq!(rt; told(&text), (25, 34, 4));
+fn takes_32_rows(rt: HostRuntime) -> Result<(), AllocError> {
+    let mut text = String::from_str(rt.alloc(), "rows 33\n")?;
+    for _ in 0..33 {
+        text.push_str("1 1 0\n")?;
+    }
+    assert_eq!(rt; answer(text.as_bytes()), Err((25, 34, 4)));
+    Ok(())
 }
 
 // A session of 16,384 bytes is read; with one byte more it is too long, whatever it holds.
 #[test]
-fn reads_at_most_16384_bytes(rt: HostRuntime) {
+fn reads_at_most_16384_bytes(rt: HostRuntime) -> Result<(), AllocError> {
     let end = b"rows 0\nticks 0\narrivals 0\n";
-    let mut longest = [b' '; 16_384];
-    put(&mut longest, 16_358, end);
-    assert_eq!(rt; told(&longest), (0, 0, 0));
-    let mut longer = [b' '; 16_385];
-    put(&mut longer, 16_359, end);
-    assert_eq!(rt; told(&longer), (22, 0, 0));
-    assert_eq!(rt; told(&[b'\n'; 16_385]), (22, 0, 0));
-    assert_eq!(rt; told(&[b' '; 16_384]), (24, 1, 0));
+    let mut longest = vec![in rt.alloc(); b' '; 16_358]?;
+    longest.extend_from_slice(end)?;
+    assert_eq!(rt; answer(&longest), Ok(()));
+    let mut longer = vec![in rt.alloc(); b' '; 16_359]?;
+    longer.extend_from_slice(end)?;
+    assert_eq!(rt; answer(&longer), Err((22, 0, 0)));
+    assert_eq!(rt; answer(&[b'\n'; 16_385]), Err((22, 0, 0)));
+    assert_eq!(rt; answer(&[b' '; 16_384]), Err((24, 1, 0)));
+    Ok(())
 }

@@ -1,5 +1,5 @@
 // The job table, its limits and its verdict.
-use feasibility::{Draft, Row, Table, Verdict};
+use feasibility::{Draft, Row, RowRefusal, Table, Verdict};
 use std::process::Abort;
 
 fn row(cost: u32, period: u32, store: u32) -> Row {
@@ -13,17 +13,14 @@ fn row(cost: u32, period: u32, store: u32) -> Row {
 pub(crate) fn sealed(rt: &impl Abort, rows: &[(u32, u32, u32)]) -> Table {
     let mut draft = Draft::new();
     for (cost, period, store) in rows {
-        assert_eq!(rt; refusal(&mut draft, row(*cost, *period, *store)), 0);
+        assert_eq!(rt; answer(&mut draft, row(*cost, *period, *store)), Ok(()));
     }
     draft.seal()
 }
 
-// The number by which a row is refused, 0 if it is taken.
-fn refusal(draft: &mut Draft, row: Row) -> u32 {
-    match draft.add(row) {
-        Ok(()) => 0,
-        Err(refusal) => refusal.number(),
-    }
+// Whether a row is refused, and the number by which.
+fn answer(draft: &mut Draft, row: Row) -> Result<(), u32> {
+    draft.add(row).map_err(RowRefusal::number)
 }
 
 // The rows of a case, its hyperperiod, its load, its verdict and the number by which that is told.
@@ -93,27 +90,30 @@ fn judges_the_example(rt: HostRuntime) {
 #[test]
 fn tests_the_limits_in_order(rt: HostRuntime) {
     let mut draft = Draft::new();
-    assert_eq!(rt; refusal(&mut draft, row(0, 0, 0)), 2);
-    assert_eq!(rt; refusal(&mut draft, row(1, 65536, 9)), 2);
-    assert_eq!(rt; refusal(&mut draft, row(0, 4, 9)), 1);
-    assert_eq!(rt; refusal(&mut draft, row(5, 4, 9)), 1);
-    assert_eq!(rt; refusal(&mut draft, row(1, 4, 9)), 3);
-    assert_eq!(rt; refusal(&mut draft, row(u32::MAX, u32::MAX, u32::MAX)), 2);
+    assert_eq!(rt; answer(&mut draft, row(0, 0, 0)), Err(2));
+    assert_eq!(rt; answer(&mut draft, row(1, 65536, 9)), Err(2));
+    assert_eq!(rt; answer(&mut draft, row(0, 4, 9)), Err(1));
+    assert_eq!(rt; answer(&mut draft, row(5, 4, 9)), Err(1));
+    assert_eq!(rt; answer(&mut draft, row(1, 4, 9)), Err(3));
+    assert_eq!(rt;
+        answer(&mut draft, row(u32::MAX, u32::MAX, u32::MAX)),
+        Err(2)
+    );
     assert_eq!(rt; draft.count(), 0);
-    assert_eq!(rt; refusal(&mut draft, row(65535, 65535, 8)), 0);
+    assert_eq!(rt; answer(&mut draft, row(65535, 65535, 8)), Ok(()));
     assert_eq!(rt; draft.count(), 1);
 }
 
 #[test]
 fn keeps_the_hyperperiod_within_its_limit(rt: HostRuntime) {
     let mut draft = Draft::new();
-    assert_eq!(rt; refusal(&mut draft, row(1, 31623, 0)), 0);
-    assert_eq!(rt; refusal(&mut draft, row(1, 31624, 0)), 5);
-    assert_eq!(rt; refusal(&mut draft, row(0, 31624, 0)), 1);
-    assert_eq!(rt; refusal(&mut draft, row(1, 31624, 9)), 3);
+    assert_eq!(rt; answer(&mut draft, row(1, 31623, 0)), Ok(()));
+    assert_eq!(rt; answer(&mut draft, row(1, 31624, 0)), Err(5));
+    assert_eq!(rt; answer(&mut draft, row(0, 31624, 0)), Err(1));
+    assert_eq!(rt; answer(&mut draft, row(1, 31624, 9)), Err(3));
     assert_eq!(rt; draft.count(), 1);
     assert_eq!(rt; draft.hyperperiod(), 31623);
-    assert_eq!(rt; refusal(&mut draft, row(1, 31622, 0)), 0);
+    assert_eq!(rt; answer(&mut draft, row(1, 31622, 0)), Ok(()));
     assert_eq!(rt; draft.hyperperiod(), 999_982_506);
 }
 
@@ -121,13 +121,13 @@ fn keeps_the_hyperperiod_within_its_limit(rt: HostRuntime) {
 fn takes_32_rows(rt: HostRuntime) {
     let mut draft = Draft::new();
     for _ in 0..32 {
-        assert_eq!(rt; refusal(&mut draft, row(1, 31623, 0)), 0);
+        assert_eq!(rt; answer(&mut draft, row(1, 31623, 0)), Ok(()));
     }
-    assert_eq!(rt; refusal(&mut draft, row(1, 31623, 0)), 4);
-    assert_eq!(rt; refusal(&mut draft, row(1, 0, 0)), 4);
-    assert_eq!(rt; refusal(&mut draft, row(0, 4, 0)), 4);
-    assert_eq!(rt; refusal(&mut draft, row(1, 4, 9)), 4);
-    assert_eq!(rt; refusal(&mut draft, row(1, 31624, 0)), 4);
+    assert_eq!(rt; answer(&mut draft, row(1, 31623, 0)), Err(4));
+    assert_eq!(rt; answer(&mut draft, row(1, 0, 0)), Err(4));
+    assert_eq!(rt; answer(&mut draft, row(0, 4, 0)), Err(4));
+    assert_eq!(rt; answer(&mut draft, row(1, 4, 9)), Err(4));
+    assert_eq!(rt; answer(&mut draft, row(1, 31624, 0)), Err(4));
     let table = draft.seal();
     assert_eq!(rt; table.count(), 32);
     assert_eq!(rt; table.load(), 32);
@@ -155,7 +155,7 @@ fn adds_a_long_load(rt: HostRuntime) {
     let mut draft = Draft::new();
     for i in 0..32u32 {
         let period = 31622 + i % 2;
-        assert_eq!(rt; refusal(&mut draft, row(period, period, 0)), 0);
+        assert_eq!(rt; answer(&mut draft, row(period, period, 0)), Ok(()));
     }
     let overloaded = Verdict::Overloaded {
         hyperperiod: 999_982_506,
