@@ -16,6 +16,10 @@ positive rows sound j l = omega (arith, sound j l)
 pub demand_le : (x : Row) (t : ℕ) → Limited x → demand x t ≤ t
 demand_le x t limited = omega (arith, mul-le-mul_left (t / x.period) limited.1, div-mul-le_self t x.period)
 
+-- a cost is at most its period, so a row's share of h is at most h
+pub share_le : (x : Row) (h : ℕ) → Limited x → share x h ≤ h
+share_le x h limited = omega (arith, mul-le-mul_right (h / x.period) limited.1, mul-div-le h x.period)
+
 -- nothing is due within less than a period
 pub demand_none : (x : Row) (t : ℕ) → t < x.period → demand x t ≡ 0
 demand_none x t l = ap (λ q. q * x.cost) (div-eq_of_lt l) ∙ zero-mul x.cost

@@ -15,7 +15,7 @@ use Rattle.feasibility.specs.Hopeless.{
 use Rattle.feasibility.specs.Schedules.{Job, Requests, Schedule, Lawful, due, units, Requested, Finished, Unfinished, Serves, Busy, Unshared, LateBy}
 use Rattle.feasibility.specs.Sums.{Σ<}
 use Rattle.feasibility.specs.Tables.{row_at, Sound, load_of, share, least_period, Least}
-use Rattle.feasibility.specs.Verdicts.{demand, needed, Tried}
+use Rattle.feasibility.specs.Verdicts.{demand, needed, Tried, FirstFailing}
 use Rattle.feasibility.specs.declared.row.Row.{Row}
 use Rattle.feasibility.specs.declared.verdict.Verdict.TheVariants.{Fit, Overloaded, Blocked}
 use Rattle.std.proofs.lemmas.Bool.{both_ways, cases_eq, cases_lt, cond-false, cond-true, eq-eqb, eqb-true, ne_eqb}
@@ -375,3 +375,12 @@ refusals_are_deserved_lem rows h (Overloaded x y) sound right =
     subst (OverloadIsHopeless rows) (sym right.first_is) (overload_is_hopeless rows h sound right.load_exceeds)
 refusals_are_deserved_lem rows h (Blocked n l) sound right =
     blocking_is_hopeless rows (n - 1) l sound right.first.tried right.first.fails
+
+-- what a find of the search is worth
+pub finds_are_worth : (rows : List Row) (i l : ℕ) → Sound rows → FirstFailing rows i l → BlockingIsHopeless rows i l
+finds_are_worth rows i l sound found = blocking_is_hopeless rows i l sound found.tried found.fails
+
+-- what a load is worth
+pub loads_are_worth :
+    (rows : List Row) (h n : ℕ) → Sound rows → n ≡ load_of rows h → h < n → OverloadIsHopeless rows h
+loads_are_worth rows h n sound is heavy = overload_is_hopeless rows h sound (omega arith)

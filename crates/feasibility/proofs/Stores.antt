@@ -1,5 +1,5 @@
 -- The least period of a store's users.
-use Rattle.std.proofs.Common.{◌≡◌, ℕ, zero, suc, ◌<◌, ◌≤◌, cond, eqb, ◌≢◌, ◌⊎◌, List, [], ◌∷◌, length, IfSome, Some, None, Option, MatchOption, sym, ◌∙◌, subst, inl, inr, arith}
+use Rattle.std.proofs.Common.{◌≡◌, ℕ, zero, suc, ◌<◌, ◌≤◌, cond, eqb, ◌≢◌, ◌⊎◌, List, [], ◌∷◌, length, Some, None, Option, MatchOption, sym, ◌∙◌, subst, inl, inr, arith}
 use Rattle.feasibility.specs.Tables.{row_at, Limited, Sound, lower, least_period, least_kept, Least, Unused}
 use Rattle.feasibility.specs.declared.row.Row.{Row}
 use Rattle.std.proofs.lemmas.Bool.{cases_eq, cond-true, cond-false, eq-eqb, ne_eqb}
@@ -111,20 +111,23 @@ least_none rows r sound none j l e = bad (least_bound rows r sound j l e).0
     bad : 1 ≤ least_period rows r → ⊥
     bad some = omega arith
 
--- what is kept of a store: that it has no users, or the least of their periods, within the limit of one
-KeptLaw : List Row → ℕ → Option ℕ → Type 0
-KeptLaw rows r o = MatchOption o (Unused rows r) (λ p. Least rows r p) × IfSome o (λ p. p ≤ 65535)
-
+-- what is kept of a store: that it has no users, or the least of their periods
 pub kept_law :
     (rows : List Row) (r : ℕ) (o : Option ℕ) → Sound rows → o ≡ least_kept rows r →
-    MatchOption o (Unused rows r) (λ p. Least rows r p) × IfSome o (λ p. p ≤ 65535)
-unfolding KeptLaw
-kept_law rows r o sound is = subst (KeptLaw rows r) (sym is) (at (cases_eq (least_period rows r) 0))
+    MatchOption o (Unused rows r) (λ p. Least rows r p)
+kept_law rows r o sound is = subst Law (sym is) (at (cases_eq (least_period rows r) 0))
   where
-    at : (least_period rows r ≡ 0) ⊎ (least_period rows r ≡ 0 → ⊥) → KeptLaw rows r (least_kept rows r)
+    Law : Option ℕ → Type 0
+    Law o = MatchOption o (Unused rows r) (λ p. Least rows r p)
+
+    at : (least_period rows r ≡ 0) ⊎ (least_period rows r ≡ 0 → ⊥) → Law (least_kept rows r)
     at (inl z) =
-        subst (KeptLaw rows r) (sym (cond-true (eqb (least_period rows r) 0) None (Some (least_period rows r)) (eq-eqb (least_period rows r) 0 z)))
-        (λ _. least_none rows r sound z, tt)
+        subst Law (sym (cond-true (eqb (least_period rows r) 0) None (Some (least_period rows r)) (eq-eqb (least_period rows r) 0 z)))
+        (λ _. least_none rows r sound z)
     at (inr nz) =
-        subst (KeptLaw rows r) (sym (cond-false (eqb (least_period rows r) 0) None (Some (least_period rows r)) (ne_eqb (least_period rows r) 0 nz)))
-        (least_law rows r sound (omega arith), least_short rows r sound)
+        subst Law (sym (cond-false (eqb (least_period rows r) 0) None (Some (least_period rows r)) (ne_eqb (least_period rows r) 0 nz)))
+        (least_law rows r sound (omega arith))
+
+-- within the limit of a period
+pub kept_short : (rows : List Row) (r p : ℕ) → Sound rows → Some p ≡ least_kept rows r → p ≤ 65535
+kept_short rows r p sound is = grind (arith, nat_tests, least_short rows r sound, is)

@@ -17,6 +17,7 @@ fn gcd(mut a: u32, mut b: u32) -> u32
 }
 
 // The least positive number that both divide.
+#[tactic(auto, using(crate::proofs::Euclid::least_common))]
 pub(crate) fn least_common_multiple(a: u32, b: u32) -> u64
     requires { (0 < a) × (0 < b) }
     ensures { LeastCommonMultiple a b result }

@@ -51,6 +51,7 @@ impl Row {
     }
 
     // The units that it asks for in one hyperperiod.
+    #[tactic(auto, using(crate::proofs::Demands::share_le))]
     pub(crate) fn share(self, hyperperiod: u32) -> u32
         requires { Limited self }
         ensures value { result ≡ share self hyperperiod }
@@ -60,6 +61,7 @@ impl Row {
     }
 
     // The units that its jobs ask for that are requested and due within `span` ticks.
+    #[tactic(auto, using(crate::proofs::Demands::demand_le))]
     pub(crate) fn demand(self, span: u32) -> u32
         requires { Limited self }
         ensures value { result ≡ demand self span }

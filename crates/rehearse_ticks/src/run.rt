@@ -55,13 +55,21 @@ fn release_due<L: ReadyList + Drop, W: Write>(
     out: &mut W,
 ) -> io::Result<()> {
     while let Some(arrival) = coming.take_due(clock) {
-        if let Err(refusal) = dispatcher.release(arrival.row) {
-            print(out, |line| {
-                refusal_line(line, clock, arrival.row, refusal.number())
-            })?;
-        }
+        release(dispatcher, arrival.row, clock, out)?;
     }
     Ok(())
+}
+
+fn release<L: ReadyList + Drop, W: Write>(
+    dispatcher: &mut Dispatcher<L>,
+    row: u32,
+    clock: u32,
+    out: &mut W,
+) -> io::Result<()> {
+    match dispatcher.release(row) {
+        Ok(()) => Ok(()),
+        Err(refusal) => print(out, |line| refusal_line(line, clock, row, refusal.number())),
+    }
 }
 
 // One tick: the row that it is given to, and the state of that row's job at its end.

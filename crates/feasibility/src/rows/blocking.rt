@@ -12,17 +12,12 @@ use crate::row::Row;
 use crate::rows::Rows;
 
 impl Rows {
-    // The place of the first row that fails, with its first failing length; what such a find is worth.
+    // The place of the first row that fails, with its first failing length; what such a find is worth. The rows are
+    // searched one by one, and the lengths of each.
+    #[tactic(auto, using(crate::proofs::Refused::finds_are_worth))]
     pub(crate) fn first_failing(&self) -> Option<(usize, u32)>
         ensures found { MatchOption result (Unblocked (rows_of self.now)) (λ b. FirstFailing (rows_of self.now) b.0 b.1) }
         ensures worth { IfSome result (λ b. BlockingIsHopeless (rows_of self.now) b.0 b.1) }
-    {
-        self.search()
-    }
-
-    // The search, row by row.
-    fn search(&self) -> Option<(usize, u32)>
-        ensures { MatchOption result (Unblocked (rows_of self.now)) (λ b. FirstFailing (rows_of self.now) b.0 b.1) }
     {
         for (place, row) in self.as_slice().iter().enumerate() {
             if let Some(length) = self.failing_length(place, *row) {
@@ -48,6 +43,7 @@ impl Rows {
     }
 
     // What the row at a place and the others need within `span` ticks. It asks itself for nothing again below its period.
+    #[tactic(auto, using(crate::proofs::Totals::sum_split, crate::proofs::Demands::demand_none))]
     fn units_needed(&self, place: usize, span: u32) -> u32
         requires within { place < length (rows_of self.now) }
         requires some { 0 < span }
@@ -58,6 +54,7 @@ impl Rows {
     }
 
     // What all jobs ask for that are requested and due within `span` ticks.
+    #[tactic(auto, using(crate::proofs::Totals::sum_more))]
     fn units_asked(&self, span: u32) -> u32
         requires { span ≤ max_period }
         ensures value { result ≡ Σ< (length (rows_of self.now)) (λ j. demand (row_at (rows_of self.now) j) span) }

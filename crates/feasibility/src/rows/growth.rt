@@ -39,6 +39,7 @@ impl Rows {
     }
 
     // One row more at the end.
+    #[tactic(auto, using(crate::proofs::Pushes::rows_after, crate::proofs::Pushes::sound_push))]
     pub(crate) fn push(&mut self, row: Row, hyperperiod: u32)
         requires room { length (rows_of self.old) < max_rows }
         requires limited { Limited row }
@@ -64,6 +65,7 @@ fn place(cells: &mut [Row; 32], count: u32, row: Row)
 }
 
 // The least periods after one row more.
+#[tactic(auto, using(crate::proofs::Pushes::least_with))]
 fn note_period(least: &mut [Option<u32>; 9], row: Row)
     requires { Limited row }
     ensures { (rows : List Row) → LeastPeriods least.old rows → LeastPeriods least.new (rows ++ row ∷ []) }

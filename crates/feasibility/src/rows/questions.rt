@@ -38,6 +38,7 @@ impl Rows {
     }
 
     // The units that all rows ask for in one hyperperiod.
+    #[tactic(auto, using(crate::proofs::Refused::loads_are_worth))]
     pub fn load(&self) -> u64
         ensures value { result ≡ load_of (rows_of self.now) (hyperperiod_of self.now) }
         ensures worth { hyperperiod_of self.now < result → OverloadIsHopeless (rows_of self.now) (hyperperiod_of self.now) }
@@ -58,6 +59,7 @@ impl Rows {
     }
 
     // The least period that is kept for a store, if a row uses it.
+    #[tactic(auto, using(crate::proofs::Stores::kept_law, crate::proofs::Stores::kept_short))]
     fn kept_period(&self, store: u32) -> Option<u32>
         requires { store ≤ max_store }
         ensures value { result ≡ least_kept (rows_of self.now) store }
@@ -68,9 +70,9 @@ impl Rows {
     }
 
     // Adds each row's share of a hyperperiod.
+    #[tactic(auto, using(crate::proofs::Totals::sum_more))]
     fn sum_of_shares(&self, hyperperiod: u32) -> u64
-        ensures value { result ≡ load_of (rows_of self.now) hyperperiod }
-        ensures worth { hyperperiod < result → OverloadIsHopeless (rows_of self.now) hyperperiod }
+        ensures { result ≡ load_of (rows_of self.now) hyperperiod }
     {
         let mut sum: u64 = 0;
         for row in self.as_slice() {

@@ -1,5 +1,5 @@
 use Rattle.std.proofs.Common.{ℕ, ◌<◌}
-use Rattle.feasibility.proofs.rows.Rows.search.Given as goal
+use Rattle.feasibility.proofs.rows.Rows.first_failing.Given as goal
 use Rattle.feasibility.specs.Contents.{rows_of}
 use Rattle.feasibility.specs.Searches.{NeverFails}
 
