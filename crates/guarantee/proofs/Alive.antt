@@ -5,7 +5,7 @@ use Rattle.feasibility.specs.Contents.{numbered}
 use Rattle.feasibility.specs.Tables.{row_at, Sound}
 use Rattle.feasibility.specs.declared.row.Row.{Row}
 use Rattle.guarantee.proofs.Between.{Between, taken_between}
-use Rattle.guarantee.proofs.Facts.{accepted, refused, outcome, passed, not_false, is_none, in_table, not_early}
+use Rattle.guarantee.proofs.Facts.{accepted, refused, outcome, passed, is_none, in_table, not_early}
 use Rattle.guarantee.proofs.Requesting.{released_between}
 use Rattle.guarantee.proofs.Telling.{Seen, seen_between, seen_begun, Right, release_true, spare_true, end_true}
 use Rattle.guarantee.proofs.Ticking.{within as first_within, first_job, idle_between, work_between}
@@ -22,7 +22,7 @@ use Rattle.guarantee.specs.declared.state.JobState.TheVariants.{Unfinished}
 use Rattle.ready.specs.Entries.{Entries, IsFirst, filled}
 use Rattle.ready.specs.Limits.{max_row}
 use Rattle.ready.specs.declared.entry.Entry.{Entry}
-use Rattle.std.proofs.lemmas.Bool.{cond-false, true≢false, eqb-true, ltb-false, ne_eqb}
+use Rattle.std.proofs.lemmas.Bool.{cond-false, true≢false, eqb-true, ltb-false, ne_eqb, not-false}
 
 -- By the table taken and the history: no table is taken and nothing has changed; or the tick is closed; or it is open,
 -- and the state is what begin made of one between two ticks.
@@ -52,7 +52,7 @@ take_on tab h s rows (bare m cells wide) proper none =
     let empty = passed (not (eqb (filled m) 0)) ListNotEmpty _ none in
     let fits = passed (ltb cells (length rows)) CapacityBelowRows _ empty.1 in
     between
-    (taken_between m cells rows wide (eqb-true (filled m) 0 (not_false (eqb (filled m) 0) empty.0)) proper.0
+    (taken_between m cells rows wide (eqb-true (filled m) 0 (not-false (eqb (filled m) 0) empty.0)) proper.0
     proper.1 (ltb-false cells (length rows) fits.0))
 take_on tab h s rows (between {rows = rs} b) proper none =
     clash (is_some s.table) (has_table rs h s b) (passed (is_some s.table) TableTaken _ none).0
@@ -82,7 +82,7 @@ release_tests s row none =
     passed (too_early s.clock (known (row_in s row)).period (state_of s row).last) TooEarly _ shut.1 in
     let free = passed (is_some (state_of s row).job) EarlierUnfinished None on_time.1 in
     record {
-      listed = not_false (is_some (row_in s row)) listed.0;
+      listed = not-false (is_some (row_in s row)) listed.0;
       shut = shut.0;
       on_time = on_time.0;
       free = free.0;
@@ -117,7 +117,7 @@ end_on tab h s (bare m cells wide) none = not_refused NoTable none
 end_on tab h s (between b) none =
     let shut : is_open s.tick ≡ false = ap is_open b.tick in
     clash (is_open s.tick)
-    (not_false (is_open s.tick)
+    (not-false (is_open s.tick)
     (passed (not (is_open s.tick)) NoTickOpen _ (passed (not (is_some s.table)) NoTable _ none).1).0) shut
 end_on tab h s (within {rows = rows} {s = s₀} None b f) none = between (idle_between rows h s₀ b f)
 end_on tab h s (within {rows = rows} {s = s₀} (Some e) b f) none =
@@ -179,7 +179,7 @@ spare_answered rows h s row r t k step =
       | accepted none is ↦
           let table = passed (not (is_some s.table)) NoTable _ none in
           let listed = passed (not (is_some (row_in s row))) UnknownRow None table.1 in
-          rw is.0 (spare_true rows h s k row (not_false (is_some (row_in s row)) listed.0))
+          rw is.0 (spare_true rows h s k row (not-false (is_some (row_in s row)) listed.0))
       | refused e why is same ↦ rw is tt
     ]
 
@@ -198,7 +198,7 @@ end_answered tab h s r t (between {rows = rows} b) step =
   where
     open_now : end_refusal s ≡ None → is_open s.tick ≡ true
     open_now none =
-        not_false (is_open s.tick)
+        not-false (is_open s.tick)
         (passed (not (is_open s.tick)) NoTickOpen _ (passed (not (is_some s.table)) NoTable _ none).1).0
 end_answered tab h s r t (within {rows = rows} {s = s₀} None b f) step =
     elim

@@ -1,5 +1,5 @@
 -- What is known where a call is accepted.
-use Rattle.std.proofs.Common.{◌≡◌, ℕ, ◌+◌, ◌-◌, ◌<◌, ◌≤◌, min, Bool, true, false, cond, not, ◌&&◌, eqb, ltb, leb, ◌⊎◌, List, length, is_some as option_is_some, Some, None, Err, Option, Result, refl, inl, inr, arith}
+use Rattle.std.proofs.Common.{◌≡◌, ℕ, ◌+◌, ◌-◌, ◌<◌, ◌≤◌, min, Bool, true, false, cond, ◌&&◌, eqb, ltb, leb, ◌⊎◌, List, length, is_some as option_is_some, Some, None, Err, Option, Result, refl, inl, inr, arith}
 use Rattle.feasibility.proofs.Stores.{least_bound}
 use Rattle.feasibility.specs.Contents.{numbered, least_told}
 use Rattle.feasibility.specs.Limits.{max_store}
@@ -27,10 +27,6 @@ pub passed :
     (b : Bool) (e : Refusal) (o : Option Refusal) → cond b (Some e) o ≡ None → (b ≡ false) × (o ≡ None)
 passed true e o p = (cc, cc)
 passed false e o p = (refl, p)
-
-pub not_false : (b : Bool) → not b ≡ false → b ≡ true
-not_false true p = refl
-not_false false p = cc
 
 pub is_none : {X : Type 0} (o : Option X) → option_is_some o ≡ false → o ≡ None
 is_none None p = refl

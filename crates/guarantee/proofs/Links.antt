@@ -1,4 +1,5 @@
 -- What a history says of the view: each step keeps it.
+use Rattle.std.proofs.lemmas.Option.{none-some}
 use Rattle.std.proofs.Common.{◌≡◌, ℕ, ◌+◌, ◌<◌, ◌≤◌, true, false, ◌≢◌, ◌⊎◌, List, length, Some, None, sym, refl, ap, ◌∙◌, subst, ap₂, inl, inr, le_trans, arith}
 use Rattle.feasibility.proofs.Counting.{job, some_unit, units_later}
 use Rattle.feasibility.proofs.Demands.{positive}
@@ -18,7 +19,7 @@ use Rattle.guarantee.proofs.HistorySteps.{
   units_now,
   units_else,
 }
-use Rattle.guarantee.proofs.Marks.{none_some, some_same, after_none}
+use Rattle.guarantee.proofs.Marks.{some_same, after_none}
 use Rattle.guarantee.proofs.Tendings.{released_is, worked_is}
 use Rattle.guarantee.proofs.Views.{Task, View, AllTended, Linked, Started, new_task, Released, Idled, Worked}
 use Rattle.guarantee.specs.Histories.{History, unwritten, last_job, asked, idled, worked}
@@ -53,9 +54,9 @@ started_linked rows v r =
     record {
       clock = r.clock;
       past = λ j a e. absurd (both_ways false refl e);
-      current = λ j b l e. absurd (none_some (v.task j) b (r.task j l) e);
+      current = λ j b l e. absurd (none-some b (sym (r.task j l) ∙ e));
       done = λ b e _. absurd (both_ways false refl e.1);
-      served = λ t b e. absurd (none_some None b refl e);
+      served = λ t b e. absurd (none-some b e);
     }
 
 -- the job just requested is the last of its row and has had nothing; the one before it was finished
@@ -126,7 +127,7 @@ released_linked rows i h v v' sound r link =
             Finished rows h.plan b h.clock
         at (inl x) _ (inl none) =
             absurd
-            (none_some (v'.task b.of) (new_task (row_at rows i) v.clock) none (ap v'.task x.0 ∙ r.task))
+            (none-some (new_task (row_at rows i) v.clock) (sym none ∙ ap v'.task x.0 ∙ r.task))
         at (inl x) _ (inr other) =
             absurd (other (x.1 ∙ sym (last_now i h) ∙ ap (λ k. (last_job h' k).at) (sym x.0)))
         at (inr old) (inl p) _ = link.done b (e.0, old) (inl (ap v.task p ∙ r.free))
@@ -149,7 +150,7 @@ idled_linked rows h v v' r link =
     record {
       clock = omega (arith, r.clock, link.clock);
       past = λ j a e. let was = link.past j a e in omega (arith, was, r.next j was.0);
-      current = λ j b l e. absurd (none_some (v'.task j) b (r.task j l ∙ r.none j l) e);
+      current = λ j b l e. absurd (none-some b (sym (r.task j l ∙ r.none j l) ∙ e));
       done =
           λ b e _. le_trans (link.done b e (inl (r.none b.of e.0)))
           (units_later h.plan b h.clock (h.clock + 1) (omega arith));

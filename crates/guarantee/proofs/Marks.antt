@@ -1,4 +1,5 @@
 -- What a tick leaves of the job that it is given to.
+use Rattle.std.proofs.lemmas.Option.{none-some}
 use Rattle.std.proofs.Common.{◌≡◌, ℕ, ◌+◌, ◌-◌, ◌<◌, ◌≤◌, min, true, false, leb, ◌≢◌, ◌⊎◌, List, Some, None, Option, sym, ◌∙◌, inl, inr, arith}
 use Rattle.feasibility.specs.Tables.{least_period}
 use Rattle.feasibility.specs.declared.row.Row.{Row}
@@ -7,9 +8,6 @@ use Rattle.std.proofs.lemmas.Bool.{cases_Bool, cond-false, cond-true, leb-false,
 use Rattle.std.proofs.lemmas.Bool.Decides.{nat_tests}
 
 -- nothing is a job
-pub none_some : {A : Type 0} (o : Option A) (b : A) → o ≡ None → o ≡ Some b → ⊥
-none_some o b p q = let z : ◌≡◌ {A = ℕ} 0 1 = cc in omega arith
-
 pub some_same : {A : Type 0} {x y : A} → ◌≡◌ {A = Option A} (Some x) (Some y) → x ≡ y
 some_same q = cc
 
@@ -61,7 +59,7 @@ after_some rows x clock b a e = at (after_cases rows x clock b)
         ((b.left ≤ 1) × (after rows x clock b ≡ None)) ⊎
         ((1 < b.left) × (after rows x clock b ≡ Some (rest rows x clock b))) →
         (1 < b.left) × (rest rows x clock b ≡ a)
-    at (inl last) = absurd (none_some (after rows x clock b) a last.1 e)
+    at (inl last) = absurd (none-some a (sym last.1 ∙ e))
     at (inr more) = (more.0, some_same (sym more.1 ∙ e))
 
 pub after_none : (rows : List Row) (x : Row) (clock : ℕ) (b : Task) → after rows x clock b ≡ None → b.left ≤ 1
@@ -71,4 +69,4 @@ after_none rows x clock b e = at (after_cases rows x clock b)
         ((b.left ≤ 1) × (after rows x clock b ≡ None)) ⊎
         ((1 < b.left) × (after rows x clock b ≡ Some (rest rows x clock b))) → b.left ≤ 1
     at (inl last) = last.0
-    at (inr more) = absurd (none_some (after rows x clock b) (rest rows x clock b) e more.1)
+    at (inr more) = absurd (none-some (rest rows x clock b) (sym e ∙ more.1))

@@ -1,4 +1,5 @@
 -- What is promised of a history: each step keeps it.
+use Rattle.std.proofs.lemmas.Option.{none-some}
 use Rattle.std.proofs.Common.{◌≡◌, ℕ, ◌+◌, ◌<◌, ◌≤◌, true, false, ◌≢◌, ◌⊎◌, List, length, Some, None, Option, sym, refl, ap, ◌∙◌, subst, ap₂, inl, inr, arith}
 use Rattle.feasibility.proofs.Counting.{job}
 use Rattle.feasibility.proofs.Demands.{positive}
@@ -7,7 +8,7 @@ use Rattle.feasibility.specs.Tables.{row_at, Sound}
 use Rattle.feasibility.specs.declared.row.Row.{Row}
 use Rattle.guarantee.proofs.HistorySteps.{asked_cases, given_now, given_old, units_old}
 use Rattle.guarantee.proofs.Links.{unserved}
-use Rattle.guarantee.proofs.Marks.{none_some, some_same}
+use Rattle.guarantee.proofs.Marks.{some_same}
 use Rattle.guarantee.proofs.Slacks.{slack_in_time}
 use Rattle.guarantee.proofs.Tendings.{others_fresh}
 use Rattle.guarantee.proofs.Views.{Task, View, Slack, AllTended, Exclusive, Linked, Released, Idled, Worked}
@@ -24,9 +25,9 @@ pub started_orderly : (rows : List Row) → Orderly rows unwritten
 started_orderly rows =
     record {
       lawful = λ j a b l ea eb lt. absurd (both_ways false refl ea);
-      serves = λ t b l e. absurd (none_some None b refl e);
+      serves = λ t b l e. absurd (none-some b e);
       busy = λ t b l e ask le. absurd (both_ways false refl ask.1);
-      unshared = λ t b other l e ne stored same. absurd (none_some None b refl e);
+      unshared = λ t b other l e ne stored same. absurd (none-some b e);
     }
 
 -- a request is accepted no sooner than a period after the one before it
@@ -101,7 +102,7 @@ worked_orderly rows k c h v v' w tended ex link link' order =
     busy t b l e ask le = at (cases_eq t h.clock)
       where
         at : (t ≡ h.clock) ⊎ (t ≡ h.clock → ⊥) → Finished rows h'.plan b t
-        at (inl now) = absurd (none_some (h'.plan t) (last_job h k) e (ap h'.plan now ∙ given_now k h))
+        at (inl now) = absurd (none-some (last_job h k) (sym e ∙ ap h'.plan now ∙ given_now k h))
         at (inr ne) =
             let lt : t < h.clock = omega arith in
             omega (

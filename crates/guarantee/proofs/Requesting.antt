@@ -1,4 +1,5 @@
 -- A release between two ticks: there is a cell for the new entry, and the view goes on by a request.
+use Rattle.std.proofs.lemmas.Option.{none-some}
 use Rattle.std.proofs.Common.{◌≡◌, ℕ, zero, suc, ◌+◌, ◌-◌, ◌<◌, ◌≤◌, true, false, eqb, ◌≢◌, ◌⊎◌, List, [], ◌∷◌, length, get_or, set, is_some, Some, None, Ok, Option, sym, refl, ap, ◌∙◌, subst, ap₂, inl, inr, arith, length-set, get_or-set_other, get_or-set_same}
 use Rattle.feasibility.specs.Schedules.{relative_deadline}
 use Rattle.feasibility.specs.Tables.{row_at}
@@ -16,14 +17,11 @@ use Rattle.ready.specs.declared.entry.Slot.{Slot}
 use Rattle.std.proofs.lemmas.Bool.{cases_eq, ne_eqb}
 use Rattle.std.proofs.lemmas.Bool.Decides.{nat_tests}
 
-none_some : {X : Type 0} (x : X) → ◌≡◌ {A = Option X} None (Some x) → ⊥
-none_some x e = let z : ◌≡◌ {A = ℕ} 0 1 = cc in omega arith
-
 -- entries at the first n places only
 filled_below : (m : Entries) (n : ℕ) → ((k : ℕ) → n ≤ k → get_or m k None ≡ None) → filled m ≤ n
 filled_below [] n f = omega arith
 filled_below (None ∷ m) zero f = filled_below m zero (λ k h. f (suc k) (omega arith))
-filled_below (Some x ∷ m) zero f = absurd (none_some x (sym (f 0 (omega arith))))
+filled_below (Some x ∷ m) zero f = absurd (none-some x (sym (f 0 (omega arith))))
 filled_below (None ∷ m) (suc n) f = let h = filled_below m n (λ k h. f (suc k) (omega (arith, h))) in omega arith
 filled_below (Some x ∷ m) (suc n) f = let h = filled_below m n (λ k h. f (suc k) (omega (arith, h))) in omega arith
 
@@ -34,7 +32,7 @@ filled_less [] n i h e f = omega arith
 filled_less (o ∷ m) zero i h e f = absurd (omega (arith, h))
 filled_less (None ∷ m) (suc n) zero h e f =
     let b = filled_below m n (λ k h. f (suc k) (omega (arith, h))) in omega arith
-filled_less (Some x ∷ m) (suc n) zero h e f = absurd (none_some x (sym e))
+filled_less (Some x ∷ m) (suc n) zero h e f = absurd (none-some x (sym e))
 filled_less (None ∷ m) (suc n) (suc i) h e f =
     let b = filled_less m n i (omega (arith, h)) e (λ k h. f (suc k) (omega (arith, h))) in omega arith
 filled_less (Some x ∷ m) (suc n) (suc i) h e f =

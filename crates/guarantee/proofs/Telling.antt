@@ -5,7 +5,7 @@ use Rattle.feasibility.specs.Schedules.{due, units, Requested, Finished}
 use Rattle.feasibility.specs.Tables.{row_at}
 use Rattle.feasibility.specs.declared.row.Row.{Row}
 use Rattle.guarantee.proofs.Between.{Between, LastIs, joined, kept_at, slot_at, view}
-use Rattle.guarantee.proofs.Facts.{in_table, is_some, not_early, not_false, is_none}
+use Rattle.guarantee.proofs.Facts.{in_table, is_some, not_early, is_none}
 use Rattle.guarantee.proofs.HistorySteps.{units_now}
 use Rattle.guarantee.proofs.Views as views
 use Rattle.guarantee.specs.Histories.{History, last_job, worked}
@@ -19,7 +19,7 @@ use Rattle.guarantee.specs.declared.state.JobState.TheVariants.{Unfinished, InTi
 use Rattle.guarantee.specs.declared.state.Pending.{Pending}
 use Rattle.ready.specs.declared.entry.Entry.{Entry}
 use Rattle.ready.specs.declared.entry.Slot.{Slot}
-use Rattle.std.proofs.lemmas.Bool.{cond_both, leb-true, leb-false, ltb-true}
+use Rattle.std.proofs.lemmas.Bool.{cond_both, leb-true, leb-false, ltb-true, not-false}
 
 -- What the history says of what is kept of each row, in a tick or between two.
 pub record Seen (rows : List Row) (h : History) (s : State) : Type 0 where
@@ -139,7 +139,7 @@ module _ (rows : List Row) (h : History) (s : State) (k : Seen rows h s) (row : 
   release_true =
       cond_both (not (option_is_some s.table)) (Some NoTable) _ Right (λ _. tt)
       (λ _. cond_both (not (option_is_some (row_in s row))) (Some UnknownRow) _ Right (λ _. tt)
-      (λ known_row. after_row (not_false (option_is_some (row_in s row)) known_row)))
+      (λ known_row. after_row (not-false (option_is_some (row_in s row)) known_row)))
     where
       after_row :
           option_is_some (row_in s row) ≡ true →

@@ -1,9 +1,10 @@
 -- What holds of each unfinished job, and of any two in one store, whatever the table: each step keeps it.
+use Rattle.std.proofs.lemmas.Option.{none-some}
 use Rattle.std.proofs.Common.{◌≡◌, ℕ, ◌<◌, ◌≤◌, true, false, ◌≢◌, ◌⊎◌, List, length, Some, sym, refl, ap, ◌∙◌, subst, inl, inr, arith}
 use Rattle.feasibility.proofs.Stores.{least_bound}
 use Rattle.feasibility.specs.Tables.{row_at, Sound}
 use Rattle.feasibility.specs.declared.row.Row.{Row}
-use Rattle.guarantee.proofs.Marks.{none_some, some_same, marked_le, marked_held, rest, after_some}
+use Rattle.guarantee.proofs.Marks.{some_same, marked_le, marked_held, rest, after_some}
 use Rattle.guarantee.proofs.Views.{
   Task,
   View,
@@ -34,7 +35,7 @@ tended_later rows x clock clock' next next' b le e k =
     }
 
 pub started_tended : (rows : List Row) (v : View) → Started rows v → AllTended rows v
-started_tended rows v r j b l e = absurd (none_some (v.task j) b (r.task j l) e)
+started_tended rows v r j b l e = absurd (none-some b (sym (r.task j l) ∙ e))
 
 -- the job of the row that is requested is the new one
 pub released_is :
@@ -68,7 +69,7 @@ released_tended rows i v v' sound r tended j b l e = at (cases_eq j i)
         (r.next_else j l ne) (tended j b l (sym (r.task_else j l ne) ∙ e))
 
 pub idled_tended : (rows : List Row) (v v' : View) → Idled rows v v' → AllTended rows v'
-idled_tended rows v v' r j b l e = absurd (none_some (v'.task j) b (r.task j l ∙ r.none j l) e)
+idled_tended rows v v' r j b l e = absurd (none-some b (sym (r.task j l ∙ r.none j l) ∙ e))
 
 -- the job of the row that gets a tick is what is left of it, if anything is
 pub worked_is :
@@ -110,11 +111,11 @@ worked_tended rows i b v v' w tended j a l e = at (cases_eq j i)
         (w.next j l) (tended j a l (sym (w.task_else j l ne) ∙ e))
 
 pub started_exclusive : (rows : List Row) (v : View) → Started rows v → Exclusive rows v
-started_exclusive rows v r i j a b li lj ne stored same ea eb t = absurd (none_some (v.task i) a (r.task i li) ea)
+started_exclusive rows v r i j a b li lj ne stored same ea eb t = absurd (none-some a (sym (r.task i li) ∙ ea))
 
 pub idled_exclusive : (rows : List Row) (v v' : View) → Idled rows v v' → Exclusive rows v'
 idled_exclusive rows v v' r i j a b li lj ne stored same ea eb t =
-    absurd (none_some (v'.task i) a (r.task i li ∙ r.none i li) ea)
+    absurd (none-some a (sym (r.task i li ∙ r.none i li) ∙ ea))
 
 -- a job just requested is ranked by its period, so not above one that has begun in its store
 pub released_exclusive :

@@ -1,4 +1,5 @@
 -- A begin and its end: the view goes on by a tick, given to the job that is ranked first or to none.
+use Rattle.std.proofs.lemmas.Option.{none-some}
 use Rattle.std.proofs.Common.{◌≡◌, ℕ, ◌+◌, ◌-◌, ◌<◌, ◌≤◌, min, Bool, true, false, cond, eqb, leb, ◌≢◌, ◌⊎◌, List, length, get_or, set, is_some as option_is_some, Some, None, Ok, Option, sym, refl, ap, ◌∙◌, subst, ap₂, inl, inr, arith, length-set, get_or-set_other, get_or-set_same}
 use Rattle.feasibility.specs.Tables.{row_at, least_period}
 use Rattle.feasibility.specs.declared.row.Row.{Row}
@@ -88,10 +89,7 @@ module _ (rows : List Row) (h : History) (s : State) (b : Between rows h s) wher
       where
         at : (e.row - 1 < length rows) ⊎ (length rows ≤ e.row - 1) → e.row - 1 < length rows
         at (inl l) = l
-        at (inr past) = absurd (none_some (sym (b.beyond (e.row - 1) past) ∙ f.is))
-          where
-            none_some : ◌≡◌ {A = Option Slot} None (Some (slot e.deadline e.begun)) → ⊥
-            none_some p = let z : ◌≡◌ {A = ℕ} 0 1 = cc in omega arith
+        at (inr past) = absurd (none-some (slot e.deadline e.begun) (sym (b.beyond (e.row - 1) past) ∙ f.is))
 
     abbrev line : Row
     line = row_at rows (e.row - 1)
