@@ -32,7 +32,7 @@ impl Rows {
         ensures { MatchResult result (λ h. Hyperperiod (rows_of self.now ++ row ∷ []) h × (h ≤ max_hyperperiod)) (λ e. (refusal_number e ≡ 5) × IsTooLong (rows_of self.now ++ row ∷ [])) }
     {
         let hyperperiod = least_common_multiple(self.hyperperiod, row.period);
-        if hyperperiod > MAX_HYPERPERIOD as u64 {
+        if hyperperiod > u64::from(MAX_HYPERPERIOD) {
             return Err(RowRefusal::Hyperperiod);
         }
         Ok(hyperperiod as u32)
