@@ -3,8 +3,8 @@ use Rattle.feasibility.proofs.Pushes.{hyperperiod_push}
 use Rattle.feasibility.proofs.rows.Rows.hyperperiod_with.Goals as goal
 use Rattle.feasibility.specs.Contents.{rows_of}
 
-pub returns-then-hyperperiod : goal.returns-then-hyperperiod
-returns-then-hyperperiod c =
+pub returns-then-hyperperiod-from : goal.returns-then-hyperperiod-from
+returns-then-hyperperiod-from c =
     let s = c.args.self.now in
     let lcm = c.least_common_multiple-hyperperiod in
     let whole = hyperperiod_push (rows_of s) c.args.row s.hyperperiod lcm.result s.exact lcm.ensures in
@@ -15,5 +15,5 @@ returns c =
     let s = c.args.self.now in
     let lcm = c.least_common_multiple-hyperperiod in (
       hyperperiod_push (rows_of s) c.args.row s.hyperperiod lcm.result s.exact lcm.ensures,
-      c.if-hyperperiod.false,
+      omega (arith, c.if-hyperperiod-from.false),
     )
