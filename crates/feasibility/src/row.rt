@@ -14,8 +14,8 @@ pub const MAX_STORE: u32 = 8;
 pub const MAX_HYPERPERIOD: u32 = 1_000_000_000;
 
 // A job that comes again and again: each request wants `cost` ticks and is due one `period` after it. From its first
-// tick until it is finished it holds `store`, or none for 0. Any numbers make a row; a table takes only rows within
-// its limits.
+// tick until it is finished it holds `store`, or none for 0, as a session file writes it. Any numbers make a row; a table
+// takes only rows within its limits.
 #[derive(Clone, Copy, PartialEq, Eq, Debug)]
 pub struct Row {
     pub cost: u32,

@@ -14,7 +14,7 @@ pub enum Verdict {
 }
 
 impl Verdict {
-    // The number by which the verdict is told.
+    // The number by which the verdict is told. A variant with values can have no discriminant.
     pub fn number(self) -> u32
         ensures { result ≡ (told self).number }
     {

@@ -2,7 +2,7 @@
 ghost use Rattle.std.specs.Prelude.{◌≡◌};
 ghost use Rattle.guarantee.specs.Numbers.{state_number};
 
-// A tick is closed, or open on a row: 0 for an idle one.
+// A tick is closed, or open on a row: 0 for an idle one, as its calls answer. The calls match on it by these names.
 #[derive(Clone, Copy)]
 pub enum Tick {
     Closed,

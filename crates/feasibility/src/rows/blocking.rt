@@ -53,7 +53,8 @@ impl Rows {
         self.as_slice()[place].cost + self.units_asked(span - 1)
     }
 
-    // What all jobs ask for that are requested and due within `span` ticks.
+    // What all jobs ask for that are requested and due within `span` ticks. In a chain with `sum` the proof would not know
+    // that each row is within its limits.
     #[tactic(auto, using(crate::proofs::Totals::sum_more))]
     fn units_asked(&self, span: u32) -> u32
         requires { span ≤ max_period }

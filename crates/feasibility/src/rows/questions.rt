@@ -69,7 +69,7 @@ impl Rows {
         self.least[store as usize]
     }
 
-    // Adds each row's share of a hyperperiod.
+    // Adds each row's share of a hyperperiod: a loop for the reason that `units_asked` is one.
     #[tactic(auto, using(crate::proofs::Totals::sum_more))]
     fn sum_of_shares(&self, hyperperiod: u32) -> u64
         ensures { result ≡ load_of (rows_of self.now) hyperperiod }
