@@ -4,17 +4,11 @@ use Rattle.arrivals.specs.Order.{earlier}
 use Rattle.arrivals.specs.declared.order.PlacedArrival.{PlacedArrival}
 use Rattle.arrivals.specs.declared.coming.Coming.{Coming}
 use Rattle.queue.specs.Contents as queues
-use Rattle.std.specs.List.{ContainsAt, AllByRecursion}
+use Rattle.std.specs.List.{AllByRecursion}
 
 -- The arrivals that are to come, in no order that matters.
 abbrev pub contents : Coming → List PlacedArrival
 contents c = queues.contents c.queue
-
--- One of these is due at the clock.
-pub record SomeDue (clock : ℕ) (xs : List PlacedArrival) : Type 0 where
-  pub arrival : PlacedArrival
-  pub held : ContainsAt xs arrival
-  pub due : arrival.time ≤ clock
 
 -- x is due at the clock, and none that is to come comes before it; it comes out.
 pub record Comes (clock : ℕ) (c c' : Coming) (x : PlacedArrival) : Type 0 where

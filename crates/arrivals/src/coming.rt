@@ -1,5 +1,4 @@
 // The arrivals that are to come.
-ghost use Rattle.std.specs.Prelude.{◌≡◌, []};
 ghost use Rattle.arrivals.specs.Order.{earlier};
 ghost use Rattle.queue.specs.Contents as queues;
 ghost use Rattle.queue.specs.Heaps.{Heaped};

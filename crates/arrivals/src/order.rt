@@ -1,12 +1,11 @@
 // Arrivals and their order.
-ghost use Rattle.std.specs.Prelude.{◌≡◌};
 ghost use Rattle.arrivals.specs.Order.{earlier};
 ghost use Rattle.std.proofs.Common.{rules};
 
 use queue::Order;
 
-// An arrival with its place in the file.
-#[derive(Clone, Copy)]
+// An arrival with its place in the file. The derived order goes by the fields as they stand here.
+#[derive(Clone, Copy, PartialEq, Eq, PartialOrd, Ord)]
 pub struct PlacedArrival {
     pub time: u32,
     pub row: u32,
@@ -24,12 +23,6 @@ impl Order for PlacedArrival {
     ghost irreflexive = { Prim.search rules };
 
     fn precedes(&self, other: &PlacedArrival) -> bool {
-        if self.time != other.time {
-            return self.time < other.time;
-        }
-        if self.row != other.row {
-            return self.row < other.row;
-        }
-        self.place < other.place
+        self < other
     }
 }
