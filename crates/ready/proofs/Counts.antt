@@ -1,12 +1,12 @@
--- How many entries there are, a place at a time.
-use Rattle.std.proofs.Common.{◌≡◌, ℕ, ◌+◌, ◌<◌, ◌∷◌, length, get_or, drop, Some, None, ap, ◌∙◌}
+-- How many entries there are, by the library's word for it.
+use Rattle.std.proofs.Common.{◌≡◌, ◌+◌, cond, ◌∷◌, is_some, count_by, Some, None, Option, refl, arith}
 use Rattle.ready.specs.Entries.{Entries, filled}
 use Rattle.ready.specs.declared.entry.Slot.{Slot}
-use Rattle.std.proofs.lemmas.List.{at_drop_more}
+use Rattle.std.proofs.lemmas.List.Recursion.{is_count_by}
 
-module _ (m : Entries) (i : ℕ) (h : i < length m) where
-  pub filled_some : (x : Slot) → get_or m i None ≡ Some x → filled (drop i m) ≡ filled (drop (i + 1) m) + 1
-  filled_some x e = at_drop_more filled m i None h ∙ ap (λ o. filled (o ∷ drop (i + 1) m)) e
+one_more : (x : Option Slot) (m : Entries) → filled (x ∷ m) ≡ cond (is_some x) (1 + filled m) (filled m)
+one_more None m = refl
+one_more (Some x) m = omega arith
 
-  pub filled_none : get_or m i None ≡ None → filled (drop i m) ≡ filled (drop (i + 1) m)
-  filled_none e = at_drop_more filled m i None h ∙ ap (λ o. filled (o ∷ drop (i + 1) m)) e
+pub filled_is : (m : Entries) → filled m ≡ count_by is_some m
+filled_is = is_count_by filled is_some refl one_more

@@ -1,9 +1,12 @@
 -- Entries in any order, as a queue holds them, and what they say of each row.
-use Rattle.std.specs.Prelude.{◌≡◌, ℕ, ◌+◌, ◌<◌, ◌≤◌, true, false, cond, List, [], ◌∷◌, map, length, Some, None, count_by, Option, MatchOption, ◌==◌, nat_eq, nat_lt, slice_index_or, refl}
-use Rattle.ready.specs.Entries.{Entries, slot, has, outside}
+use Rattle.std.specs.Prelude.{◌≡◌, ℕ, ◌+◌, ◌≤◌, cond, List, [], ◌∷◌, map, length, Some, None, count_by, Option, Result, Err, position, ◌==◌, nat_eq, nat_lt, refl}
+use Rattle.ready.specs.Entries.{Entries, slot, outside}
 use Rattle.ready.specs.Limits.{max_row}
 use Rattle.ready.specs.declared.entry.Entry.{Entry}
 use Rattle.ready.specs.declared.entry.Slot.{Slot}
+use Rattle.ready.specs.declared.refusal.ListRefusal.{ListRefusal}
+use Rattle.ready.specs.declared.refusal.ListRefusal.TheVariants.{RowOutside, NoEntry}
+use Rattle.std.specs.Option.{ok_or}
 use Rattle.std.specs.List.{range_with_len}
 
 -- How many have the row.
@@ -27,19 +30,9 @@ pub length_by_row : (es : List Entry) → length (by_row es) ≡ max_row
 unfolding by_row
 length_by_row es = refl
 
--- The row of the entry in a cell.
-abbrev pub row_at : List Entry → ℕ → ℕ
-row_at es cell = (slice_index_or es cell (record { row = 0; deadline = 0; begun = false })).row
-
--- The entry in the cell has the row.
-pub record Holds (es : List Entry) (row cell : ℕ) : Type 0 where
-  pub within : cell < length es
-  pub is : row_at es cell ≡ row
-  pub has : has (by_row es) row ≡ true
-
--- The cell of the row's entry is told, or that there is none.
-abbrev pub IsCell : List Entry → ℕ → Option ℕ → Type 0
-IsCell es row r = MatchOption r (has (by_row es) row ≡ false) (Holds es row)
+-- The cell of the first entry that has the row, or why there is none.
+abbrev pub found_cell : List Entry → ℕ → Result ℕ ListRefusal
+found_cell es row = cond (outside row) (Err RowOutside) (ok_or (position (λ e. e.row == row) es) NoEntry)
 
 -- The capacity of a list that has n cells.
 abbrev pub capacity_of : ℕ → ℕ

@@ -3,3 +3,4 @@ pub mod Entries
 pub mod Limits
 pub mod Order
 pub mod Refusals
+pub mod Places

@@ -1,5 +1,4 @@
 // Ready entries and their order.
-ghost use Rattle.std.specs.Prelude.{◌≡◌};
 ghost use Rattle.ready.specs.Order as order;
 ghost use Rattle.std.proofs.Common.{rules};
 
@@ -14,7 +13,7 @@ pub struct Entry {
 }
 
 // What a list holds for a row that has an entry.
-#[derive(Clone, Copy)]
+#[derive(Clone, Copy, PartialEq, Eq, Debug)]
 pub struct Slot {
     pub deadline: u32,
     pub begun: bool,
@@ -31,12 +30,6 @@ impl Order for Entry {
 
     // Lower deadline first, then begun before not begun, then lower row.
     fn precedes(&self, other: &Entry) -> bool {
-        if self.deadline != other.deadline {
-            self.deadline < other.deadline
-        } else if self.begun != other.begun {
-            self.begun
-        } else {
-            self.row < other.row
-        }
+        (self.deadline, !self.begun, self.row) < (other.deadline, !other.begun, other.row)
     }
 }

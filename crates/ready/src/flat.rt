@@ -1,11 +1,12 @@
 // A ready list with a slot for each row.
-ghost use Rattle.std.specs.Prelude.{◌≡◌, length, replicate, Some, None};
+ghost use Rattle.std.specs.Prelude.{◌≡◌, length, replicate, None};
 ghost use Rattle.ready.specs.Limits.{max_row};
+ghost use Rattle.ready.specs.Places.{found_place};
 
 use crate::entry::{Entry, Slot};
 use crate::list::ReadyList;
 use crate::refusal::ListRefusal;
-use crate::slots::{count_filled, earliest, is_outside};
+use crate::slots::{earliest, place_of};
 
 #[derive(Drop)]
 pub struct FlatList {
@@ -20,6 +21,17 @@ impl FlatList {
     {
         FlatList { slots: [None; 32] }
     }
+
+    // The place of a row that has an entry.
+    fn found(&self, row: u32) -> Result<usize, ListRefusal>
+        ensures { result ≡ found_place self.now.slots row }
+    {
+        let place = place_of(row)?;
+        match self.slots[place] {
+            Some(_) => Ok(place),
+            None => Err(ListRefusal::NoEntry),
+        }
+    }
 }
 
 impl ReadyList for FlatList {
@@ -30,14 +42,11 @@ impl ReadyList for FlatList {
     ghost long = { λ s. s.long };
 
     fn put(&mut self, row: u32, deadline: u32) -> Result<(), ListRefusal> {
-        if is_outside(row) {
-            return Err(ListRefusal::RowOutside);
-        }
-        let place = row as usize - 1;
-        if let Some(_) = self.slots[place] {
+        let place = place_of(row)?;
+        if self.slots[place].is_some() {
             return Err(ListRefusal::HasEntry);
         }
-        if count_filled(&self.slots) == 32 {
+        if self.count() == self.capacity() {
             return Err(ListRefusal::Full);
         }
         self.slots[place] = Some(Slot {
@@ -48,13 +57,7 @@ impl ReadyList for FlatList {
     }
 
     fn mark(&mut self, row: u32, deadline: u32) -> Result<(), ListRefusal> {
-        if is_outside(row) {
-            return Err(ListRefusal::RowOutside);
-        }
-        let place = row as usize - 1;
-        if let None = self.slots[place] {
-            return Err(ListRefusal::NoEntry);
-        }
+        let place = self.found(row)?;
         self.slots[place] = Some(Slot {
             deadline,
             begun: true,
@@ -63,33 +66,23 @@ impl ReadyList for FlatList {
     }
 
     fn remove(&mut self, row: u32) -> Result<(), ListRefusal> {
-        if is_outside(row) {
-            return Err(ListRefusal::RowOutside);
-        }
-        let place = row as usize - 1;
-        if let None = self.slots[place] {
-            return Err(ListRefusal::NoEntry);
-        }
+        let place = self.found(row)?;
         self.slots[place] = None;
         Ok(())
     }
 
+    #[tactic(auto, using(crate::proofs::Firsts::earliest_first))]
     fn first(&self) -> Option<Entry> {
         earliest(&self.slots)
     }
 
     fn has(&self, row: u32) -> bool {
-        if is_outside(row) {
-            return false;
-        }
-        match self.slots[row as usize - 1] {
-            Some(_) => true,
-            None => false,
-        }
+        self.found(row).is_ok()
     }
 
+    #[tactic(auto, using(crate::proofs::Counts::filled_is))]
     fn count(&self) -> usize {
-        count_filled(&self.slots)
+        self.slots.iter().filter(|slot| slot.is_some()).count()
     }
 
     fn capacity(&self) -> usize {

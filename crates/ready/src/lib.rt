@@ -6,7 +6,6 @@ mod flat;
 mod heap;
 mod list;
 mod refusal;
-mod rows;
 mod slots;
 
 pub use entry::{Entry, Slot};

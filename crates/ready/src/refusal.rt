@@ -2,16 +2,17 @@
 ghost use Rattle.std.specs.Prelude.{◌≡◌};
 ghost use Rattle.ready.specs.Refusals.{list_refusal_number};
 
+// Each stands for the number by which it is told.
 #[derive(Clone, Copy, PartialEq, Eq, Debug)]
 pub enum ListRefusal {
     // The row is not from 1 to 32.
-    RowOutside,
+    RowOutside = 18,
     // The row has an entry already.
-    HasEntry,
+    HasEntry = 19,
     // The row has no entry.
-    NoEntry,
+    NoEntry = 20,
     // All cells are in use.
-    Full,
+    Full = 21,
 }
 
 impl ListRefusal {
@@ -19,11 +20,6 @@ impl ListRefusal {
     pub fn number(self) -> u32
         ensures { result ≡ list_refusal_number self }
     {
-        match self {
-            ListRefusal::RowOutside => 18,
-            ListRefusal::HasEntry => 19,
-            ListRefusal::NoEntry => 20,
-            ListRefusal::Full => 21,
-        }
+        self as u32
     }
 }

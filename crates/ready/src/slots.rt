@@ -1,51 +1,50 @@
 // Slots by row: what row k has stands at place k - 1.
-ghost use Rattle.std.specs.Prelude.{◌≡◌, length};
-ghost use Rattle.ready.specs.Entries.{outside, filled, IsFirst};
+ghost use Rattle.std.specs.Prelude.{◌≡◌, ◌<◌, ◌+◌, option_map, length};
+ghost use Rattle.ready.specs.Entries.{entry};
+ghost use Rattle.ready.specs.Places.{place_of, earliest};
 ghost use Rattle.ready.specs.Limits.{max_row};
 ghost use Rattle.ready.specs.Order.{sooner};
 
 use crate::entry::{Entry, Slot};
+use crate::refusal::ListRefusal;
 use queue::Order;
 
-pub(crate) const MAX_ROW: u32 = 32;
+const MAX_ROW: u32 = 32;
 
-pub(crate) fn is_outside(row: u32) -> bool
-    ensures { result ≡ outside row }
+// The place of a row's slot, if the row is from 1 to 32.
+pub(crate) fn place_of(row: u32) -> Result<usize, ListRefusal>
+    ensures { result ≡ place_of row }
 {
-    row < 1 || row > MAX_ROW
-}
-
-// How many rows have an entry.
-pub(crate) fn count_filled(slots: &[Option<Slot>]) -> usize
-    ensures { result ≡ filled slots.now }
-{
-    let mut count = 0;
-    for slot in slots {
-        if let Some(_) = slot {
-            count += 1;
-        }
+    if (1..=MAX_ROW).contains(&row) {
+        Ok(row as usize - 1)
+    } else {
+        Err(ListRefusal::RowOutside)
     }
-    count
 }
 
 // The entry that no other comes before.
 pub(crate) fn earliest(slots: &[Option<Slot>]) -> Option<Entry>
     requires { length slots.now ≡ max_row }
-    ensures { IsFirst slots.now result }
+    ensures { result ≡ earliest slots.now }
 {
-    let mut best: Option<Entry> = None;
-    for i in 0..32usize {
-        let here = slots[i];
-        if let Some(slot) = here {
-            let entry = Entry {
-                row: i as u32 + 1,
-                deadline: slot.deadline,
-                begun: slot.begun,
-            };
-            best = earlier(best, entry);
-        }
-    }
-    best
+    slots
+        .iter()
+        .enumerate()
+        .filter_map(|(place, slot)| entry_at(place, *slot))
+        .fold(None, earlier)
+}
+
+// The entry whose slot stands at a place.
+fn entry_at(place: usize, slot: Option<Slot>) -> Option<Entry>
+    requires { place < max_row }
+    ensures { result ≡ option_map (λ x. entry (place + 1) x) slot }
+{
+    let slot = slot?;
+    Some(Entry {
+        row: place as u32 + 1,
+        deadline: slot.deadline,
+        begun: slot.begun,
+    })
 }
 
 // The entry, unless the best so far stays ahead of it.
