@@ -67,9 +67,9 @@ filled_set :
     (m : Entries) (i : ℕ) (x : Slot) → i < length m → get_or m i None ≡ None → filled (set m i (Some x)) ≡ filled m + 1
 filled_set [] i x h z = absurd (omega arith)
 filled_set (None ∷ m) zero x h z = refl
-filled_set (Some y ∷ m) zero x h z = let q : ◌≡◌ {A = ℕ} 0 1 = cc in absurd (omega arith)
+filled_set (Some y ∷ m) zero x h z = absurd cc
 filled_set (None ∷ m) (suc i) x h z = filled_set m i x (omega arith) z
-filled_set (Some y ∷ m) (suc i) x h z = let r = filled_set m i x (omega arith) z in ap (λ n. n + 1) r
+filled_set (Some y ∷ m) (suc i) x h z = ap (λ n. n + 1) (filled_set m i x (omega arith) z)
 
 filled_none : filled (by_row []) ≡ 0
 unfolding by_row

@@ -1,5 +1,5 @@
 -- The first of the entries at the places below i, as the search for it goes on.
-use Rattle.std.proofs.Common.{◌≡◌, ℕ, suc, ◌+◌, ◌-◌, ◌<◌, ◌≤◌, Bool, true, false, [], ◌∷◌, length, get_or, Some, None, Option, option_map, fold, zero-add, sym, subst, ap, ◌∙◌, refl, inl, inr, arith, MatchOption}
+use Rattle.std.proofs.Common.{◌≡◌, ℕ, suc, ◌+◌, ◌-◌, ◌<◌, ◌≤◌, true, false, [], ◌∷◌, length, get_or, Some, None, Option, option_map, fold, zero-add, sym, subst, ap, ◌∙◌, refl, inl, inr, arith, MatchOption}
 use Rattle.ready.specs.Entries.{Entries, slot, entry, held, filled, IsFirst}
 use Rattle.ready.specs.Places.{earliest}
 use Rattle.ready.specs.Order.{before, sooner}
@@ -18,30 +18,17 @@ record Leads (m : Entries) (i : ℕ) (e : Entry) : Type 0 where
 abbrev FirstBelow : Entries → ℕ → Option Entry → Type 0
 FirstBelow m i r = MatchOption r ((k : ℕ) → k < i → get_or m k None ≡ None) (Leads m i)
 
-abbrev ranked : ℕ → Bool → ℕ → Entry
-ranked d b row = record { row = row; deadline = d; begun = b }
-
-irreflexive : (d row : ℕ) (b : Bool) → before (ranked d b row) (ranked d b row) ≡ false
-irreflexive d row true = grind (arith, nat_tests)
-irreflexive d row false = grind (arith, nat_tests)
+irreflexive : (x : Entry) → before x x ≡ false
+irreflexive x = grind (arith, nat_tests)
 
 -- what does not come before z does not come before what comes before z
-through :
-    (d row d₁ row₁ d₂ row₂ : ℕ) (b b₁ b₂ : Bool) → before (ranked d b row) (ranked d₂ b₂ row₂) ≡ false →
-    before (ranked d₁ b₁ row₁) (ranked d₂ b₂ row₂) ≡ true → before (ranked d b row) (ranked d₁ b₁ row₁) ≡ false
-through d row d₁ row₁ d₂ row₂ true true true p q = grind (arith, nat_tests)
-through d row d₁ row₁ d₂ row₂ true true false p q = grind (arith, nat_tests)
-through d row d₁ row₁ d₂ row₂ true false true p q = grind (arith, nat_tests)
-through d row d₁ row₁ d₂ row₂ true false false p q = grind (arith, nat_tests)
-through d row d₁ row₁ d₂ row₂ false true true p q = grind (arith, nat_tests)
-through d row d₁ row₁ d₂ row₂ false true false p q = grind (arith, nat_tests)
-through d row d₁ row₁ d₂ row₂ false false true p q = grind (arith, nat_tests)
-through d row d₁ row₁ d₂ row₂ false false false p q = grind (arith, nat_tests)
+through : (x y z : Entry) → before x z ≡ false → before y z ≡ true → before x y ≡ false
+through x y z p q = grind (arith, nat_tests)
 
 none_filled : (m : Entries) → ((k : ℕ) → k < length m → get_or m k None ≡ None) → filled m ≡ 0
 none_filled [] f = refl
 none_filled (None ∷ m) f = none_filled m (λ k h. f (suc k) (omega arith))
-none_filled (Some x ∷ m) f = let z : ◌≡◌ {A = Option Slot} (Some x) None = f 0 (omega arith) in cc
+none_filled (Some x ∷ m) f = cc (f 0 (omega arith))
 
 module _ (m : Entries) (i : ℕ) where
   -- nothing at i
@@ -66,7 +53,7 @@ module _ (m : Entries) (i : ℕ) where
         is = let z : i + 1 - 1 ≡ i = omega arith in rw z e;
         least =
             λ k y h at. elim (cases_eq k i) [
-              | inl p ↦ let q : y ≡ x = cc in rw (p, q) (irreflexive x.deadline (i + 1) x.begun)
+              | inl p ↦ let q : y ≡ x = cc in rw (p, q) (irreflexive (entry (i + 1) x))
               | inr n ↦ f k y (omega arith) at
             ];
       }
@@ -79,8 +66,7 @@ module _ (m : Entries) (i : ℕ) where
   onward (Some b) x f e =
       cond_both (before (entry (i + 1) x) b) (Some (entry (i + 1) x)) (Some b) (FirstBelow m (i + 1))
       (λ t. alone x e
-      (λ k y h at. through y.deadline (k + 1) x.deadline (i + 1) b.deadline b.row y.begun x.begun
-      b.begun (f.least k y h at) t))
+      (λ k y h at. through (entry (k + 1) y) (entry (i + 1) x) b (f.least k y h at) t))
       (λ t. record {
         low = f.low;
         high = omega (arith, f.high);

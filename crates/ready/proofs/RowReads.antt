@@ -23,8 +23,7 @@ count_cons e es row = sum_by-cons (λ x. cond (eqb x.row row) 1 0) e es
 
 -- None has the row: by counting, by reading, and one by one.
 apart : (b : Bool) (n : ℕ) → cond b 1 0 + n ≡ 0 → b ≡ false
-apart true n z = absurd (omega arith)
-apart false n z = refl
+apart b n z = grind (arith, nat_tests)
 
 absent : (es : List Entry) (row : ℕ) → count_of es row ≡ 0 → entry_of es row ≡ None
 absent [] row z = refl
@@ -36,7 +35,7 @@ absent (e ∷ es) row z =
 one_less :
     (b : Bool) (x : Slot) (o : Option Slot) (n : ℕ) → cond b (Some x) o ≡ None → (o ≡ None → n ≡ 0) →
     cond b 1 0 + n ≡ 0
-one_less true x o n z f = let q : ◌≡◌ {A = ℕ} 0 1 = cc in absurd (omega arith)
+one_less true x o n z f = absurd cc
 one_less false x o n z f = omega (arith, f z)
 
 unseen : (es : List Entry) (row : ℕ) → entry_of es row ≡ None → count_of es row ≡ 0
@@ -55,12 +54,10 @@ none_of (e ∷ es) row z =
     )
 
 counted : (b : Bool) → 1 ≤ cond b 0 1 → b ≡ false
-counted true h = absurd (omega arith)
-counted false h = refl
+counted b h = grind (arith, nat_tests)
 
 at_most_one : (b : Bool) → cond b 0 1 ≤ 1
-at_most_one true = omega arith
-at_most_one false = omega arith
+at_most_one b = grind (arith, nat_tests)
 
 most : (es : List Entry) (row : ℕ) → RowsOnce es → count_of es row ≤ 1
 most es row once = omega (arith, once row, at_most_one (outside row))
@@ -82,7 +79,7 @@ each (e ∷ es) row h =
     at false h f = f
 
 pub found : (es : List Entry) (row : ℕ) (s : Slot) → entry_of es row ≡ Some s → ContainsAt es (entry row s)
-found [] row s z = let q : ◌≡◌ {A = ℕ} 0 1 = cc in absurd (omega arith)
+found [] row s z = absurd cc
 found (e ∷ es) row s z = at (eqb e.row row) refl z (found es row s)
   where
     at :
@@ -104,7 +101,7 @@ pub read_inside :
     (es : List Entry) (row : ℕ) (s : Slot) → RowsOnce es → entry_of es row ≡ Some s → outside row ≡ false
 read_inside es row s once e =
     elim (cases_eq (count_of es row) 0) [
-      | inl z ↦ let n = absent es row z in let q : ◌≡◌ {A = ℕ} 0 1 = cc in absurd (omega arith)
+      | inl z ↦ let n = absent es row z in cc
       | inr n ↦ counted (outside row) (omega (arith, once row))
     ]
 
