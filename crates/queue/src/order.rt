@@ -1,4 +1,5 @@
-// An order says of two elements which comes first.
+// An order says of two elements which comes first. The library's `Ord` does not do: its laws say of two elements that
+// neither comes before the other that they are equal, and not that they are the same.
 ghost use Rattle.std.specs.Prelude.{◌≡◌, Bool, true, false, not, ◌≢◌};
 
 pub trait Order {
