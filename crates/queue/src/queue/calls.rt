@@ -23,7 +23,7 @@ impl<'a, T: Order + Copy> Queue<'a, T> {
     pub fn len(&self) -> usize
         ensures { result ≡ length (contents self.now) }
     {
-        self.used
+        self.as_slice().len()
     }
 
     // How many there can be.
