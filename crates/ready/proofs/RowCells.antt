@@ -60,7 +60,7 @@ module _ (q q' : Queue Entry) (e : Entry) (r : Result (Unit {0}) Full) (once : R
     where
       at : (r : Result (Unit {0}) Full) → is_ok r ≡ has_room q → Adds e r q q' → Added e q q'
       at (Ok u) a f = f
-      at (Err x) a f = let h = room_there in let z : false ≡ true = cc in absurd cc
+      at (Err x) a f = absurd (cc room_there)
 
   one_more : RowsOnce (e ∷ contents q)
   one_more = more_once e (contents q) once low (free (contents q) e.row low none)
@@ -77,6 +77,7 @@ module _ (q q' : Queue Entry) (e : Entry) (r : Result (Unit {0}) Full) (once : R
 
 pub ruleset additions = (added_once, added_rows)
 
+-- A place that is emptied has nothing, and there is one less.
 emptied : (m : Entries) (i : ℕ) → is_some (get_or (set m i None) i None) ≡ false
 emptied [] i = refl
 emptied (x ∷ m) zero = refl
@@ -96,8 +97,7 @@ found_from [] row i = refl
 found_from (e ∷ es) row i = at (eqb e.row row) (found_from es row (i + 1))
   where
     at :
-        (b : Bool) →
-        is_some (position_from (λ e. eqb e.row row) (i + 1) es) ≡ is_some (entry_of es row) →
+        (b : Bool) → is_some (position_from (λ e. eqb e.row row) (i + 1) es) ≡ is_some (entry_of es row) →
         is_some (cond b (Some i) (position_from (λ e. eqb e.row row) (i + 1) es)) ≡
         is_some (cond b (Some (slot e.deadline e.begun)) (entry_of es row))
     at true h = refl
@@ -111,7 +111,8 @@ module _ (es : List Entry) (row : ℕ) where
   has_found low =
       has_is es row low ∙ sym (ap is_some (position_from-zero (λ e. eqb e.row row) es) ∙ found_from es row 0)
 
-  answer_by : (b : Bool) (o : Option ℕ) (h : Bool) → (b ≡ false → h ≡ is_some o) →
+  answer_by :
+      (b : Bool) (o : Option ℕ) (h : Bool) → (b ≡ false → h ≡ is_some o) →
       MatchResult (cond b (Err RowOutside) (ok_or o NoEntry))
       (λ cell. (b ≡ false) × (o ≡ Some cell) × (h ≡ true))
       (λ e. ◌≡◌ {A = Result (Unit {0}) ListRefusal} (cond b (Err RowOutside) (cond h (Ok tt) (Err NoEntry))) (Err e))

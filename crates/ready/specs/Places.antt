@@ -7,6 +7,7 @@ use Rattle.ready.specs.declared.entry.Entry.{Entry}
 use Rattle.ready.specs.declared.refusal.ListRefusal.{ListRefusal}
 use Rattle.ready.specs.declared.refusal.ListRefusal.TheVariants.{RowOutside, NoEntry}
 
+-- The place of a row's slot, if the row is from 1 to 32.
 abbrev pub place_of : ℕ → Result ℕ ListRefusal
 place_of row = cond (outside row) (Err RowOutside) (Ok (row - 1))
 
