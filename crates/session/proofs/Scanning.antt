@@ -1,73 +1,55 @@
 -- Steps of the loops that find the next field, and what a line is before and after it.
-use Rattle.std.proofs.Common.{◌≡◌, ℕ, ◌+◌, ◌<◌, ◌≤◌, Bool, true, false, cond, ◌⊎◌, List, [], ◌∷◌, ◌++◌, length, get_or, drop, Some, None, Option, sym, refl, ap, ◌∙◌, subst, ap₂, inl, inr, append_assoc, append-nil, arith}
+use Rattle.std.proofs.Common.{◌≡◌, ℕ, ◌+◌, ◌-◌, ◌<◌, ◌≤◌, Bool, true, false, cond, ◌⊎◌, List, [], ◌∷◌, ◌++◌, length, get_or, drop, Some, None, Option, sym, refl, ap, ◌∙◌, subst, ap₂, inl, inr, take, one-add, arith}
 use Rattle.session.specs.Bytes.{is_space, is_feed, in_field}
 use Rattle.session.specs.Lines.{with_byte, first_line, ends_field, glued, fields, in_fields, next_line, with_field, has, NoField, OneMore}
+use Rattle.session.specs.Places.{Run}
 use Rattle.session.specs.Scans.{past_spaces, front_field, past_field, line_over}
-use Rattle.std.proofs.lemmas.List.Edits.{between_more, between_none, length-between}
-use Rattle.std.proofs.lemmas.List.{at_drop_all, at_drop_more, drop_all, drop_more}
+use Rattle.std.proofs.lemmas.List.Edits.{between_none, length-between}
+use Rattle.std.proofs.lemmas.List.Sums.{prefix_len-le-length, prefix_len_passes, prefix_len_stops}
+use Rattle.std.proofs.lemmas.List.{drop-drop, drop_more, get_or-drop, length-drop}
 use Rattle.std.proofs.lemmas.Bool.{cases_Bool, cond-false, cond-true, both_ways, eqb-true, ne_eqb}
 use Rattle.std.proofs.lemmas.Bool.Decides.{nat_tests}
-use Rattle.std.specs.List.{between}
+use Rattle.std.specs.List.{between, prefix_len}
 
-module _ (xs : List ℕ) (i : ℕ) where
-  pub skip_more :
-      i < length xs → is_space (get_or xs i 0) ≡ true → past_spaces (drop i xs) ≡ past_spaces (drop (i + 1) xs)
-  skip_more l e =
-      at_drop_more past_spaces xs i 0 l ∙
-      ap (λ b. cond b (past_spaces (drop (i + 1) xs)) (get_or xs i 0 ∷ drop (i + 1) xs)) e
+-- what passes a test at the front of some bytes, skipped or taken
+module _ (test : ℕ → Bool) (f : List ℕ → List ℕ) (empty : f [] ≡ []) where
+  skips :
+      ((b : ℕ) (bs : List ℕ) → f (b ∷ bs) ≡ cond (test b) (f bs) (b ∷ bs)) → (bs : List ℕ) →
+      drop (prefix_len test bs) bs ≡ f bs
+  skips step [] = sym empty
+  skips step (b ∷ bs) = by (skips step bs) (cases_Bool (test b))
+    where
+      by :
+          drop (prefix_len test bs) bs ≡ f bs → (test b ≡ true) ⊎ (test b ≡ false) →
+          drop (prefix_len test (b ∷ bs)) (b ∷ bs) ≡ f (b ∷ bs)
+      by rest (inl t) = rw (step b bs, t, one-add) rest
+      by rest (inr e) = rw (step b bs, e) refl
 
-  pub skip_stop : i < length xs → is_space (get_or xs i 0) ≡ false → past_spaces (drop i xs) ≡ drop i xs
-  skip_stop l e =
-      at_drop_more past_spaces xs i 0 l ∙
-      ap (λ b. cond b (past_spaces (drop (i + 1) xs)) (get_or xs i 0 ∷ drop (i + 1) xs)) e ∙ sym (drop_more xs i 0 l)
+  takes :
+      ((b : ℕ) (bs : List ℕ) → f (b ∷ bs) ≡ cond (test b) (b ∷ f bs) []) → (bs : List ℕ) →
+      take (prefix_len test bs) bs ≡ f bs
+  takes step [] = sym empty
+  takes step (b ∷ bs) = by (takes step bs) (cases_Bool (test b))
+    where
+      by :
+          take (prefix_len test bs) bs ≡ f bs → (test b ≡ true) ⊎ (test b ≡ false) →
+          take (prefix_len test (b ∷ bs)) (b ∷ bs) ≡ f (b ∷ bs)
+      by rest (inl t) = rw (step b bs, t, one-add) (ap (λ r. b ∷ r) rest)
+      by rest (inr e) = rw (step b bs, e) refl
 
-  pub skip_end : length xs ≤ i → past_spaces (drop i xs) ≡ drop i xs
-  skip_end l = ap past_spaces (drop_all i xs l) ∙ sym (drop_all i xs l)
-
-  front_step :
-      (b : Bool) → i < length xs → in_field (get_or xs i 0) ≡ b →
-      front_field (drop i xs) ≡ cond b (get_or xs i 0 ∷ front_field (drop (i + 1) xs)) []
-  front_step b l e =
-      at_drop_more front_field xs i 0 l ∙ ap (λ c. cond c (get_or xs i 0 ∷ front_field (drop (i + 1) xs)) []) e
-
-  past_step :
-      (b : Bool) → i < length xs → in_field (get_or xs i 0) ≡ b →
-      past_field (drop i xs) ≡ cond b (past_field (drop (i + 1) xs)) (get_or xs i 0 ∷ drop (i + 1) xs)
-  past_step b l e =
-      at_drop_more past_field xs i 0 l ∙
-      ap (λ c. cond c (past_field (drop (i + 1) xs)) (get_or xs i 0 ∷ drop (i + 1) xs)) e
-
-module _
-    (xs : List ℕ) (from i : ℕ) (le : from ≤ i)
-    (front : between from i xs ++ front_field (drop i xs) ≡ front_field (drop from xs))
-    (past : past_field (drop i xs) ≡ past_field (drop from xs)) where
-  pub field_more :
-      i < length xs → in_field (get_or xs i 0) ≡ true →
-      (between from (i + 1) xs ++ front_field (drop (i + 1) xs) ≡ front_field (drop from xs)) ×
-      (past_field (drop (i + 1) xs) ≡ past_field (drop from xs))
-  field_more l e = (
-    ap (λ bs. bs ++ front_field (drop (i + 1) xs)) (between_more xs from i 0 le l) ∙
-        append_assoc (between from i xs) _ _ ∙
-        ap (λ bs. between from i xs ++ bs) (sym (front_step xs i true l e)) ∙ front,
-    sym (past_step xs i true l e) ∙ past,
-  )
-
-  pub field_stop :
-      i < length xs → in_field (get_or xs i 0) ≡ false →
-      (between from i xs ≡ front_field (drop from xs)) × (drop i xs ≡ past_field (drop from xs))
-  field_stop l e = (
-    sym (append-nil (between from i xs)) ∙
-        ap (λ bs. between from i xs ++ bs) (sym (front_step xs i false l e)) ∙ front,
-    drop_more xs i 0 l ∙ sym (past_step xs i false l e) ∙ past,
-  )
-
-  pub field_last :
-      length xs ≤ i → (between from i xs ≡ front_field (drop from xs)) × (drop i xs ≡ past_field (drop from xs))
-  field_last l = (
-    sym (append-nil (between from i xs)) ∙
-        ap (λ bs. between from i xs ++ bs) (sym (at_drop_all front_field xs i l)) ∙ front,
-    drop_all i xs l ∙ sym (at_drop_all past_field xs i l) ∙ past,
-  )
+pub run_of :
+    (test : ℕ → Bool) (xs : List ℕ) (i : ℕ) → i ≤ length xs → Run test xs i (i + prefix_len test (drop i xs))
+run_of test xs i within = record {
+  order = omega arith;
+  within = omega (arith, prefix_len-le-length test (drop i xs), length-drop i xs);
+  each = λ k l m.
+      subst (λ j. test (get_or xs j 0) ≡ true) (let e : i + (k - i) ≡ k = omega arith in e)
+      (subst (λ b. test b ≡ true) (get_or-drop i xs (k - i) 0)
+      (prefix_len_passes test (drop i xs) (k - i) 0 (omega arith)));
+  longest = λ l.
+      subst (λ b. test b ≡ false) (get_or-drop i xs (prefix_len test (drop i xs)) 0)
+      (prefix_len_stops test (drop i xs) 0 (omega (arith, length-drop i xs)));
+}
 
 abbrev pub in_line : List (List ℕ) → List ℕ → Option (List (List ℕ) × List ℕ)
 in_line fs rest = Some (fs, rest)
@@ -235,7 +217,24 @@ no_field (b ∷ bs) none = at (no_field bs) (cases_Bool (is_space b))
             which (inl s) = absurd (both_ways (is_space b) f s)
             which (inr s) = s
 
--- the bounds of the next field
+-- the bounds of the next field: after n spaces it has m bytes
+module _ (xs : List ℕ) (from n : ℕ) where
+  pub spaces_past : n ≡ prefix_len is_space (drop from xs) → drop (from + n) xs ≡ past_spaces (drop from xs)
+  spaces_past is =
+      sym (drop-drop n from xs) ∙ ap (λ k. drop k (drop from xs)) is ∙
+      skips is_space past_spaces refl (λ _ _. refl) (drop from xs)
+
+  module _ (m : ℕ) (is : m ≡ prefix_len in_field (drop (from + n) xs)) where
+    pub field_front : between (from + n) (from + n + m) xs ≡ front_field (drop (from + n) xs)
+    field_front =
+        ap (λ k. take k (drop (from + n) xs)) (let e : from + n + m - (from + n) ≡ m = omega arith in e ∙ is) ∙
+        takes in_field front_field refl (λ _ _. refl) (drop (from + n) xs)
+
+    pub field_past : drop (from + n + m) xs ≡ past_field (drop (from + n) xs)
+    field_past =
+        sym (drop-drop m (from + n) xs) ∙ ap (λ k. drop k (drop (from + n) xs)) is ∙
+        skips in_field past_field refl (λ _ _. refl) (drop (from + n) xs)
+
 module _
     (xs : List ℕ) (from start end : ℕ) (skipped : drop start xs ≡ past_spaces (drop from xs))
     (front : between start end xs ≡ front_field (drop start xs)) (past : drop end xs ≡ past_field (drop start xs)) where

@@ -1,6 +1,6 @@
 // The fields of a line, one after another.
-ghost use Rattle.std.specs.Prelude.{◌≡◌, ◌<◌, ◌≤◌, true, [], length, drop, IfSome, MatchOption};
-ghost use Rattle.std.specs.List.{between};
+ghost use Rattle.std.specs.Prelude.{◌≡◌, ◌<◌, ◌≤◌, true, [], if◌then◌else◌, length, drop, IfSome, MatchOption};
+ghost use Rattle.std.specs.List.{between, prefix_len};
 ghost use Rattle.session.specs.Bytes.{is_space, in_field};
 ghost use Rattle.session.specs.Lines.{next_line, with_field};
 ghost use Rattle.session.specs.Places.{Run, FieldAt, OverAt};
@@ -54,36 +54,15 @@ fn field_bounds(input: &[u8], from: usize) -> (usize, usize)
     ensures some { result.0 < result.1 → next_line (drop from input.now) ≡ with_field (between result.0 result.1 input.now) (next_line (drop result.1 input.now)) }
     ensures runs { Run is_space input.now from result.0 × Run in_field input.now result.0 result.1 }
 {
-    let start = field_start(input, from);
-    let end = field_end(input, start);
+    let start = from + run_length(&input[from..], false);
+    let end = start + run_length(&input[start..], true);
     (start, end)
 }
 
-// The first place from `from` on that holds no space.
-fn field_start(input: &[u8], from: usize) -> usize
-    requires { from ≤ length input.now }
-    ensures within { (from ≤ result) × (result ≤ length input.now) }
-    ensures rest { drop result input.now ≡ past_spaces (drop from input.now) }
-    ensures run { Run is_space input.now from result }
+// How many bytes at the front go on with what was begun.
+fn run_length(bytes: &[u8], begun: bool) -> usize
+    ensures value { result ≡ prefix_len (λ b. if begun then in_field b else is_space b) bytes.now }
+    ensures within { result ≤ length bytes.now }
 {
-    let mut i = from;
-    while i < input.len() && goes_on(false, input[i]) {
-        i += 1;
-    }
-    i
-}
-
-// The first place from `from` on that holds no byte of a field.
-fn field_end(input: &[u8], from: usize) -> usize
-    requires { from ≤ length input.now }
-    ensures within { (from ≤ result) × (result ≤ length input.now) }
-    ensures front { between from result input.now ≡ front_field (drop from input.now) }
-    ensures rest { drop result input.now ≡ past_field (drop from input.now) }
-    ensures run { Run in_field input.now from result }
-{
-    let mut i = from;
-    while i < input.len() && goes_on(true, input[i]) {
-        i += 1;
-    }
-    i
+    bytes.iter().take_while(|byte| goes_on(begun, **byte)).count()
 }
