@@ -1,3 +1,4 @@
+pub mod Answering
 pub mod Digits
 pub mod OneAnswer
 pub mod Runs

@@ -1,7 +1,7 @@
 -- Steps of the loops that find the next field, and what a line is before and after it.
 use Rattle.std.proofs.Common.{◌≡◌, ℕ, ◌+◌, ◌-◌, ◌<◌, ◌≤◌, Bool, true, false, cond, ◌⊎◌, List, [], ◌∷◌, ◌++◌, length, get_or, drop, Some, None, Option, sym, refl, ap, ◌∙◌, subst, ap₂, inl, inr, take, one-add, arith}
 use Rattle.session.specs.Bytes.{is_space, is_feed, in_field}
-use Rattle.session.specs.Lines.{with_byte, first_line, ends_field, glued, fields, in_fields, next_line, with_field, has, NoField, OneMore}
+use Rattle.session.specs.Lines.{with_byte, first_line, ends_field, glued, fields, in_fields, next_line, with_field, has, NoField}
 use Rattle.session.specs.Places.{Run}
 use Rattle.session.specs.Scans.{past_spaces, front_field, past_field, line_over}
 use Rattle.std.proofs.lemmas.List.Edits.{between_none, length-between}
@@ -263,13 +263,9 @@ pub has_none : (f : List ℕ) (o : Option (List (List ℕ) × List ℕ)) → has
 has_none f None = refl
 has_none f (Some p) = ne_eqb (length (f ∷ p.0)) 0 (λ e. omega arith)
 
-pub one_more : (f : List ℕ) (o : Option (List (List ℕ) × List ℕ)) → OneMore (with_field f o) o
-one_more f None = (refl, refl, refl)
-one_more f (Some p) = (grind (arith, nat_tests), grind (arith, nat_tests), grind (arith, nat_tests))
-
 pub over_has : (bs : List ℕ) → line_over bs ≡ true → NoField (next_line bs)
-over_has [] over = (refl, refl, refl)
-over_has (b ∷ bs) over = subst NoField (sym is) (refl, refl, refl)
+over_has [] over = λ n. refl
+over_has (b ∷ bs) over = subst NoField (sym is) (λ n. grind (arith, nat_tests))
   where
     is : next_line (b ∷ bs) ≡ Some ([], bs)
     is = ap in_fields (cond-true (is_feed b) (Some ([], bs)) (with_byte b (first_line bs)) over)

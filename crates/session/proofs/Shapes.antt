@@ -1,11 +1,12 @@
 -- What the fields of a line make of it.
-use Rattle.std.proofs.Common.{◌≡◌, ℕ, suc, false, ◌≢◌, List, [], ◌∷◌, ◌++◌, length, Some, None, Option, sym, refl, ap, ◌∙◌, ap₂, arith}
+use Rattle.std.proofs.Common.{◌≡◌, ℕ, suc, ◌+◌, false, ◌≢◌, List, [], ◌∷◌, ◌++◌, length, Some, None, Option, sym, refl, ap, ◌∙◌, ap₂, arith}
 use Rattle.session.proofs.Scanning.{same_parts}
 use Rattle.session.specs.LineKinds.{AreNumbers, Misshapen}
-use Rattle.session.specs.Lines.{has, next_line}
+use Rattle.session.specs.Lines.{has, NoField, next_line, with_field}
 use Rattle.session.specs.Numbers.{number_in}
 use Rattle.std.proofs.lemmas.List.{append_cancel_left}
 use Rattle.std.proofs.lemmas.Bool.{eqb-false}
+use Rattle.std.proofs.lemmas.Bool.Decides.{nat_tests}
 
 -- a line that has not n fields
 pub count_wrong :
@@ -18,13 +19,38 @@ first_of : Option (List (List ℕ) × List ℕ) → List (List ℕ)
 first_of None = []
 first_of (Some p) = p.0
 
-pub heading_word :
-    (word name value bs rest : List ℕ) → next_line bs ≡ Some (name ∷ value ∷ [], rest) → name ≢ word →
-    Misshapen (word ∷ []) 1 bs
-unfolding first_of
-heading_word word name value bs rest line other fields rest' line' e =
-    let same : ◌≡◌ {A = List (List ℕ)} (name ∷ value ∷ []) (word ∷ fields) = ap first_of (sym line ∙ line') in
-    absurd (other (let e : name ≡ word = cc in e))
+has_after : (f : List ℕ) (n : ℕ) (o : Option (List (List ℕ) × List ℕ)) → has (n + 1) (with_field f o) ≡ has n o
+has_after f n None = refl
+has_after f n (Some p) = grind (arith, nat_tests)
+
+-- a heading whose word or number is not there, or that more follows
+pub no_heading :
+    (word bs : List ℕ) → has 2 (next_line bs) ≡ false → Misshapen (word ∷ []) 1 bs
+no_heading word bs none fields rest line =
+    λ e. count_wrong 2 bs none (word ∷ fields) rest line (ap suc e)
+
+module _ (word name bs : List ℕ) (o : Option (List (List ℕ) × List ℕ)) (first : next_line bs ≡ with_field name o) where
+  pub no_value : NoField o → Misshapen (word ∷ []) 1 bs
+  no_value none = no_heading word bs (ap (has 2) first ∙ has_after name 1 o ∙ none 0)
+
+  module _ (value : List ℕ) (o' : Option (List (List ℕ) × List ℕ)) (second : o ≡ with_field value o') where
+    pub more_than_value : has 0 o' ≡ false → Misshapen (word ∷ []) 1 bs
+    more_than_value more =
+        no_heading word bs
+        (ap (has 2) first ∙ has_after name 1 o ∙ ap (has 1) second ∙ has_after value 0 o' ∙ more)
+
+    module _ (rest : List ℕ) (over : o' ≡ Some ([], rest)) where
+      two_fields : next_line bs ≡ Some (name ∷ value ∷ [], rest)
+      two_fields = first ∙ ap (with_field name) (second ∙ ap (with_field value) over)
+
+      pub the_word : name ≡ word → next_line bs ≡ Some (word ∷ value ∷ [], rest)
+      the_word same = two_fields ∙ ap (λ w. Some (w ∷ value ∷ [], rest)) same
+
+      pub another_word : name ≢ word → Misshapen (word ∷ []) 1 bs
+      unfolding first_of
+      another_word other fields rest' line e =
+          let same : ◌≡◌ {A = List (List ℕ)} (name ∷ value ∷ []) (word ∷ fields) = ap first_of (sym two_fields ∙ line) in
+          absurd (other (let e : name ≡ word = cc in e))
 
 -- a field that is no number
 none_some : (f : List ℕ) (n : ℕ) → number_in f ≡ None → number_in f ≡ Some n → ⊥

@@ -1,5 +1,5 @@
 -- The lines of a file and their fields.
-use Rattle.std.specs.Prelude.{◌≡◌, ℕ, Bool, true, false, cond, List, [], ◌∷◌, length, Some, None, Option, ◌==◌}
+use Rattle.std.specs.Prelude.{◌≡◌, ℕ, ◌+◌, Bool, true, false, cond, List, [], ◌∷◌, length, Some, None, Option, ◌==◌}
 use Rattle.session.specs.Bytes.{is_space, is_feed}
 
 -- The first line of some bytes, without its line feed, and the bytes after it; none if there is no line feed.
@@ -44,9 +44,6 @@ abbrev pub has : ℕ → Option (List (List ℕ) × List ℕ) → Bool
 has n None = false
 has n (Some p) = length p.0 == n
 
--- A line has not 1, 2 or 3 fields, the numbers that a session's lines have; a line o has one field more than o'.
+-- There is no line, or it has no field.
 abbrev pub NoField : Option (List (List ℕ) × List ℕ) → Type 0
-NoField o = (has 1 o ≡ false) × (has 2 o ≡ false) × (has 3 o ≡ false)
-
-abbrev pub OneMore : Option (List (List ℕ) × List ℕ) → Option (List (List ℕ) × List ℕ) → Type 0
-OneMore o o' = (has 1 o ≡ has 0 o') × (has 2 o ≡ has 1 o') × (has 3 o ≡ has 2 o')
+NoField o = (n : ℕ) → has (n + 1) o ≡ false

@@ -12,13 +12,12 @@ use feasibility::{Draft, Row};
 pub(crate) fn read_row(reader: &mut Reader, draft: &mut Draft) -> Result<(), LineFault>
     ensures { MatchResult result (λ _. RowLine (rows_of draft.old.rows) (left reader.old) (rows_of draft.new.rows) (left reader.new)) (λ e. WrongRow (rows_of draft.old.rows) (left reader.old) e) }
 {
-    let (cost, period, store) = reader.three_numbers()?;
-    draft.add(Row {
+    let [cost, period, store] = reader.numbers::<3>()?;
+    Ok(draft.add(Row {
         cost,
         period,
         store,
-    })?;
-    Ok(())
+    })?)
 }
 
 // Adds the rows of the next `count` lines, of which the first is line 2.

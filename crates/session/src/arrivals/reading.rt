@@ -42,7 +42,7 @@ impl Arrivals {
 fn read_arrival(reader: &mut Reader, rows: u32) -> Result<Arrival, LineFault>
     ensures { MatchResult result (λ a. ArrivalLine rows (left reader.old) a.time a.row (left reader.new)) (λ e. WrongArrival rows (left reader.old) e) }
 {
-    let (time, row) = reader.two_numbers()?;
+    let [time, row] = reader.numbers::<2>()?;
     if time > MAX_TIME || row == 0 || row > rows {
         return Err(LineFault::Limit);
     }

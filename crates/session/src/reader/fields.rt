@@ -64,5 +64,8 @@ fn run_length(bytes: &[u8], begun: bool) -> usize
     ensures value { result ≡ prefix_len (λ b. if begun then in_field b else is_space b) bytes.now }
     ensures within { result ≤ length bytes.now }
 {
-    bytes.iter().take_while(|byte| goes_on(begun, **byte)).count()
+    bytes
+        .iter()
+        .take_while(|byte| goes_on(begun, **byte))
+        .count()
 }

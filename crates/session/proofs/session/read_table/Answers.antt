@@ -10,7 +10,7 @@ pub returns-in-Ok : goal.returns-in-Ok
 returns-in-Ok c =
     let bs = left c.args.reader.now in
     let after = left c.heading.new.self in
-    let line = c.in-Ok.ensures.line.0 in
+    let line = c.in-Ok.ensures.0 in
     MatchResult-weaker c.read_rows.result c.read_rows.ensures
     (λ d read. record {
       after = after;
@@ -19,4 +19,4 @@ returns-in-Ok c =
     }) (λ p wrong. row line wrong)
 
 pub returns-in-Err : goal.returns-in-Err
-returns-in-Err c = placed (heading c.in-Err.ensures.line) c.at.ensures.0 c.at.ensures.1
+returns-in-Err c = placed (heading c.in-Err.ensures) c.at.ensures.0 c.at.ensures.1
