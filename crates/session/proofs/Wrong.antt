@@ -1,5 +1,5 @@
 -- The sections of a file put together: where the first wrong line is, and that there is none.
-use Rattle.std.proofs.Common.{◌≡◌, ℕ, ◌+◌, ◌≤◌, ◌≢◌, List, [], length, codes, sym, refl, ap, ◌∙◌, subst, arith}
+use Rattle.std.proofs.Common.{◌≡◌, ℕ, ◌+◌, ◌≤◌, ◌≢◌, List, [], length, codes, Ok, Err, Result, MatchResult, sym, refl, ap, ◌∙◌, subst, arith}
 use Rattle.feasibility.specs.declared.row.Row.{Row}
 use Rattle.session.specs.Limits.{max_arrivals, max_bytes, max_ticks}
 use Rattle.session.specs.Sections.{
@@ -20,6 +20,8 @@ use Rattle.session.specs.Sessions.{
 use Rattle.session.specs.Sessions.FirstWrong.{ticks, arrivals, arrival, more}
 use Rattle.session.specs.declared.arrival.Arrival.{Arrival}
 use Rattle.session.specs.declared.fault.LineFault.{LineFault}
+use Rattle.session.specs.declared.fault.PlacedFault.{PlacedFault}
+use Rattle.std.specs.Result.{IsErrAnd}
 use Rattle.session.specs.declared.fault.LineFault.TheVariants.{Shape}
 use Rattle.std.proofs.lemmas.List.{length_push}
 
@@ -27,6 +29,29 @@ use Rattle.std.proofs.lemmas.List.{length_push}
 pub row_more :
     {rows rows' : List Row} {bs rest : List ℕ} → RowLine rows bs rows' rest → length rows' ≡ length rows + 1
 row_more {rows} l = ap length l.taken.after ∙ length_push rows (row_of l.cost l.period l.store)
+
+-- a line's answer, and the same with the line's number at the fault
+pub line_right :
+    {T : Type 0} (P : T → Type 0) (Q : LineFault → Type 0) (R : LineFault → PlacedFault → Type 0)
+    (answer : Result T LineFault) (placed : Result T PlacedFault) {x : T} → MatchResult answer P Q →
+    MatchResult answer (λ x. placed ≡ Ok x) (λ e. IsErrAnd placed (R e)) → placed ≡ Ok x → P x
+line_right P Q R (Ok y) (Ok z) {x = x} all same is = let e : y ≡ x = cc in subst P e all
+line_right P Q R (Ok y) (Err p) all same is = cc
+line_right P Q R (Err e) (Ok z) all same is = absurd same
+line_right P Q R (Err e) (Err p) all same is = cc
+
+pub line_wrong :
+    {T : Type 0} (P : T → Type 0) (Q : LineFault → Type 0) (R : LineFault → PlacedFault → Type 0) (line : ℕ)
+    (answer : Result T LineFault) (placed : Result T PlacedFault) {p : PlacedFault} → MatchResult answer P Q →
+    MatchResult answer (λ x. placed ≡ Ok x) (λ e. IsErrAnd placed (R e)) → placed ≡ Err p →
+    ((e : LineFault) (p : PlacedFault) → R e p → (p.fault ≡ e) × (p.line ≡ line)) → Q p.fault × (p.line ≡ line)
+line_wrong P Q R line (Ok y) (Ok z) all same is each = cc
+line_wrong P Q R line (Ok y) (Err q) all same is each = cc
+line_wrong P Q R line (Err e) (Ok z) all same is each = absurd same
+line_wrong P Q R line (Err e) (Err q) {p = p} all same is each =
+    let one : q ≡ p = cc in
+    let told = each e q same in
+    subst (λ r. Q r.fault × (r.line ≡ line)) one (subst Q (sym told.0) all, told.1)
 
 pub placed :
     {bs : List ℕ} {e e' : LineFault} {line line' : ℕ} → FirstWrong bs e line → e' ≡ e → line' ≡ line →

@@ -26,10 +26,8 @@ pub(crate) fn read_rows(reader: &mut Reader, count: u32) -> Result<Draft, Placed
     ensures { MatchResult result (λ d. RowsRead (left reader.old) (rows_of d.rows) (left reader.new) × (length (rows_of d.rows) ≡ count)) (λ f. RowFault count (left reader.old) f.fault f.line) }
 {
     let mut draft = Draft::new();
-    for i in 0..count {
-        if let Err(fault) = read_row(reader, &mut draft) {
-            return Err(fault.at(i + 2));
-        }
+    for line in 2..count + 2 {
+        read_row(reader, &mut draft).map_err(|fault| fault.at(line))?;
     }
     Ok(draft)
 }

@@ -30,30 +30,8 @@ pub struct Session {
 fn read_table(reader: &mut Reader) -> Result<Draft, PlacedFault>
     ensures { MatchResult result (λ d. BeginsWithRows (left reader.old) (rows_of d.rows) (left reader.new)) (λ p. FirstWrong (left reader.old) p.fault p.line) }
 {
-    match reader.heading(b"rows") {
-        Ok(count) => read_rows(reader, count),
-        Err(fault) => Err(fault.at(1)),
-    }
-}
-
-// A heading with a limit, in this line.
-fn read_heading(reader: &mut Reader, word: &[u8], max: u32, line: u32) -> Result<u32, PlacedFault>
-    ensures { MatchResult result (λ n. LimitedHeading word.now max (left reader.old) n (left reader.new)) (λ p. WrongHeading word.now max (left reader.old) p.fault × (p.line ≡ line)) }
-{
-    match reader.limited_heading(word, max) {
-        Ok(n) => Ok(n),
-        Err(fault) => Err(fault.at(line)),
-    }
-}
-
-// The end of the file, where this line would be.
-fn read_end(reader: &mut Reader, line: u32) -> Result<(), PlacedFault>
-    ensures { MatchResult result (λ _. left reader.old ≡ []) (λ p. (p.fault ≡ Shape) × (p.line ≡ line) × (left reader.old ≢ [])) }
-{
-    match reader.end() {
-        Ok(()) => Ok(()),
-        Err(fault) => Err(fault.at(line)),
-    }
+    let count = reader.heading(b"rows").map_err(|fault| fault.at(1))?;
+    read_rows(reader, count)
 }
 
 // A file that is not too long, section by section.
@@ -64,10 +42,14 @@ fn read_sections(bytes: &[u8]) -> Result<Session, PlacedFault>
     let mut reader = Reader::new(bytes);
     let draft = read_table(&mut reader)?;
     let rows = draft.count();
-    let ticks = read_heading(&mut reader, b"ticks", MAX_TICKS, rows + 2)?;
-    let count = read_heading(&mut reader, b"arrivals", MAX_ARRIVALS, rows + 3)?;
+    let ticks = reader
+        .limited_heading(b"ticks", MAX_TICKS)
+        .map_err(|fault| fault.at(rows + 2))?;
+    let count = reader
+        .limited_heading(b"arrivals", MAX_ARRIVALS)
+        .map_err(|fault| fault.at(rows + 3))?;
     let arrivals = read_arrivals(&mut reader, rows, count, rows + 4)?;
-    read_end(&mut reader, rows + count + 4)?;
+    reader.end().map_err(|fault| fault.at(rows + count + 4))?;
     Ok(Session {
         table: draft.seal(),
         ticks,
@@ -82,6 +64,5 @@ pub fn read(bytes: &[u8]) -> Result<Session, Fault>
     if bytes.len() > MAX_BYTES {
         return Err(Fault::TooLong);
     }
-    let session = read_sections(bytes)?;
-    Ok(session)
+    Ok(read_sections(bytes)?)
 }

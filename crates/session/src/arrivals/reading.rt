@@ -61,11 +61,8 @@ pub(crate) fn read_arrivals(
     ensures { MatchResult result (λ a. ArrivalsRead rows (left reader.old) (arrivals_of a) (left reader.new) × (length (arrivals_of a) ≡ count)) (λ f. ArrivalFault rows count from (left reader.old) f.fault f.line) }
 {
     let mut arrivals = Arrivals::new();
-    for i in 0..count {
-        match read_arrival(reader, rows) {
-            Ok(arrival) => arrivals.push(arrival),
-            Err(fault) => return Err(fault.at(from + i)),
-        }
+    for line in from..from + count {
+        arrivals.push(read_arrival(reader, rows).map_err(|fault| fault.at(line))?);
     }
     Ok(arrivals)
 }

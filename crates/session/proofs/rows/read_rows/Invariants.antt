@@ -2,10 +2,10 @@ use Rattle.feasibility.specs.Contents.{rows_of}
 use Rattle.session.proofs.rows.read_rows.Given as goal
 use Rattle.session.specs.Reading.{left}
 use Rattle.session.specs.Sections.{RowsRead}
-use Rattle.std.proofs.Common.{◌≡◌, length}
+use Rattle.std.proofs.Common.{◌≡◌, ◌+◌, length}
 
--- the rows of i lines are taken
-abbrev pub invariant-loop-i : goal.invariant-loop-i
-invariant-loop-i l =
+-- the rows of the lines before are taken
+abbrev pub invariant-loop-line : goal.invariant-loop-line
+invariant-loop-line l =
     RowsRead (left l.initial.reader) (rows_of l.draft.rows) (left l.reader) ×
-    (length (rows_of l.draft.rows) ≡ l.i)
+    (length (rows_of l.draft.rows) + 2 ≡ l.line-counter)

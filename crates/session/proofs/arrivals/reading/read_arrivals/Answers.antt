@@ -1,28 +1,55 @@
+use Rattle.session.proofs.Wrong.{line_right, line_wrong}
 use Rattle.session.proofs.arrivals.reading.read_arrivals.Goals as goal
 use Rattle.session.specs.Reading.{left, arrivals_of}
 use Rattle.session.specs.Sections.{ArrivalsRead}
 use Rattle.session.specs.Sections.ArrivalsRead.{none_yet, one_more}
 use Rattle.std.proofs.lemmas.List.{length_push}
-use Rattle.std.proofs.Common.{length, sym, ap, subst, arith}
+use Rattle.std.proofs.lemmas.Result.{err_from_is_err_and}
+use Rattle.std.proofs.Common.{length, sym, ap, ◌∙◌, subst, arith, rules}
 
-pub loop-i-init : goal.loop-i-init
-loop-i-init c =
+pub loop-line-init : goal.loop-line-init
+loop-line-init c =
     let bs = left c.args.reader.now in (
       subst (λ xs. ArrivalsRead c.args.rows bs xs bs) (sym c.new-arrivals.ensures) none_yet,
-      ap length c.new-arrivals.ensures,
+      omega (arith, ap length c.new-arrivals.ensures),
     )
 
-pub loop-i-preserved : goal.loop-i-preserved
-loop-i-preserved c =
-    let a = c.in-Ok.arrival in
+pub returns-in_err-map_err : goal.returns-in_err-map_err
+returns-in_err-map_err c =
+    let p = err_from_is_err_and c.from_residual.result c.from_residual.ensures.1 in
+    let l = c.loop-line in
+    let wrong
+    = line_wrong _ _ _ l.line-counter c.read_arrival.result c.map_err.result c.read_arrival.ensures
+    c.map_err.ensures.cases c.in_err-map_err.was (λ e p k. search rules) in
+    rw (p.1, p.2)
+    record {
+      arrivals = arrivals_of l.arrivals;
+      rest = left l.reader;
+      read = l.invariant.0;
+      fewer = omega (arith, l.invariant.1, c.loop-line-test.true);
+      wrong = wrong.0;
+      line_is = wrong.1 ∙ sym l.invariant.1;
+    }
+
+pub loop-line-preserved : goal.loop-line-preserved
+loop-line-preserved c =
+    let a = c.in_ok-map_err.field-0 in
     let bs = left c.args.reader.now in
-    let rest = left c.read_arrival.new.reader in (
+    let rest = left c.read_arrival.new.reader in
+    let line
+    = line_right _ _ _ c.read_arrival.result c.map_err.result c.read_arrival.ensures c.map_err.ensures.cases
+    c.in_ok-map_err.was in (
       subst (λ xs. ArrivalsRead c.args.rows bs xs rest) (sym c.push.ensures)
-          (one_more a.time a.row c.loop-i.invariant.0 c.in-Ok.ensures),
+          (one_more a.time a.row c.loop-line.invariant.0 line),
       omega (
         arith,
-        c.loop-i.invariant.1,
+        c.loop-line.invariant.1,
         ap length c.push.ensures,
-        length_push (arrivals_of c.loop-i.arrivals) a,
+        length_push (arrivals_of c.loop-line.arrivals) a,
       ),
     )
+
+pub returns : goal.returns
+returns c =
+    let l = c.loop-line in
+    (l.invariant.0, omega (arith, l.invariant.1, l.auto.line-counter-end, c.loop-line-test.false))

@@ -1,12 +1,11 @@
 use Rattle.session.proofs.Shapes.{another_word, more_than_value, no_heading, no_value, the_word}
 use Rattle.session.proofs.reader.Reader.field_after.Goals as goal
-use Rattle.session.specs.Lines.{next_line, with_field}
 use Rattle.session.specs.Reading.{left}
 use Rattle.std.proofs.lemmas.Bool.Decides.{Decides-eqb}
 use Rattle.std.proofs.lemmas.Bool.{both_ways}
 use Rattle.std.proofs.lemmas.Result.{err_from_is_err_and}
 use Rattle.std.proofs.lemmas.Slice.Eq.{slice_eq-Decides}
-use Rattle.std.proofs.Common.{[], ◌∷◌, refl, ap, ◌∙◌}
+use Rattle.std.proofs.Common.{refl}
 
 pub returns-in_err-name : goal.returns-in_err-name
 returns-in_err-name c =

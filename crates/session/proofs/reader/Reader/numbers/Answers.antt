@@ -18,7 +18,7 @@ use Rattle.session.specs.Reading.{left}
 use Rattle.std.proofs.lemmas.List.{length-replicate, length-take, map_more, take_all, take_more_set, map_push}
 use Rattle.std.proofs.lemmas.Result.{err_from_is_err_and}
 use Rattle.std.specs.Result.{result_ok}
-use Rattle.std.proofs.Common.{◌≡◌, take, ◌++◌, ◌∷◌, [], false, length, map, Some, None, Ok, sym, refl, ap, ap₂, ◌∙◌, subst, arith, length-set}
+use Rattle.std.proofs.Common.{◌≡◌, take, ◌++◌, ◌∷◌, [], false, map, Some, Ok, sym, refl, ap, ap₂, ◌∙◌, subst, arith, length-set}
 
 pub loop-answer-init : goal.loop-answer-init
 loop-answer-init g c = record {
