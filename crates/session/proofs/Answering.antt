@@ -2,7 +2,7 @@
 use Rattle.std.proofs.Common.{◌≡◌, ℕ, ◌+◌, ◌-◌, ◌<◌, ◌≤◌, false, List, [], ◌∷◌, ◌++◌, length, map, get_or, take, Some, None, Ok, Err, Option, MatchResult, Result, sym, refl, ap, ◌∙◌, subst, ap₂, append_assoc, append-nil, arith}
 use Rattle.session.specs.LineKinds.{AreNumbers}
 use Rattle.session.specs.Lines.{with_field, has, NoField}
-use Rattle.session.specs.Numbers.{number_in}
+use Rattle.session.specs.Numbers.{number_in, NumberOf}
 use Rattle.session.specs.declared.field.FieldFault.{FieldFault}
 use Rattle.std.proofs.lemmas.Bool.{ne_eqb, eqb-false}
 use Rattle.std.proofs.lemmas.List.{get_or-map, length-append, length-map, map_push, take_all}
@@ -88,7 +88,7 @@ numbers_are (f ∷ fs) (n ∷ ns) are = ap₂ ◌∷◌ are.0 (numbers_are fs ns
 -- what `number` answers of a field
 pub answer_is :
     (f : List ℕ) (a : Result ℕ FieldFault) →
-    MatchResult a (λ n. (number_in f ≡ Some n) × (n < 1000000000)) (λ _. number_in f ≡ None) →
+    MatchResult a (NumberOf f) (λ _. number_in f ≡ None) →
     number_in f ≡ result_ok a
 answer_is f (Ok n) is = is.0
 answer_is f (Err e) is = is

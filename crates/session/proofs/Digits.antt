@@ -1,30 +1,30 @@
 -- Steps of the loop that reads a number.
 use Rattle.std.proofs.Common.{◌≡◌, ℕ, ◌+◌, ◌-◌, ◌*◌, ◌^◌, ◌<◌, ◌≤◌, true, false, ◌&&◌, leb, List, length, get_or, drop, Some, None, sym, ap, ◌∙◌, pow-suc, add-one, arith}
 use Rattle.session.specs.Bytes.{is_digit}
+use Rattle.session.specs.Limits.{max_number}
 use Rattle.session.specs.Numbers.{all_digits, is_number, value_after, number_in}
 use Rattle.std.proofs.lemmas.List.{at_drop_all, at_drop_more}
 use Rattle.std.proofs.lemmas.Bool.{and_from, and_left, and_right, cond-false, cond-true, le-leb}
 use Rattle.std.proofs.lemmas.Bool.Decides.{nat_tests}
+use Rattle.std.specs.Char.{digit_value}
 use native.Mathlib.Nat.{pow-le-pow_right}
 
 -- nine digits fit 32 bits
 pub room : (n i : ℕ) → n < 10 ^ i → i < 9 → n * 10 + 9 < 2 ^ 32
 room n i h l = omega (arith, pow-le-pow_right {n = 10} (omega arith) {i = i} {j = 8} (omega arith))
 
-pub nine : (n i : ℕ) → n < 10 ^ i → i ≤ 9 → n < 1000000000
+pub nine : (n i : ℕ) → n < 10 ^ i → i ≤ 9 → n ≤ max_number
 nine n i h l = omega (arith, pow-le-pow_right {n = 10} (omega arith) {i = i} {j = 9} l)
 
 pub grows : (n i d : ℕ) → n < 10 ^ i → d ≤ 9 → n * 10 + d < 10 ^ (i + 1)
 grows n i d h l = rw (add-one, pow-suc) (omega arith)
 
-pub digit_yes : (b : ℕ) → 48 ≤ b → b ≤ 57 → is_digit b ≡ true
-digit_yes b low high = grind (arith, nat_tests)
+-- a digit, as `to_digit` tells it
+pub digit_yes : (b : ℕ) → digit_value b < 10 → (is_digit b ≡ true) × (digit_value b ≡ b - 48)
+digit_yes b is = (grind (arith, nat_tests), grind (arith, nat_tests))
 
-pub digit_low : (b : ℕ) → b < 48 → is_digit b ≡ false
-digit_low b h = grind (arith, nat_tests)
-
-pub digit_high : (b : ℕ) → 57 < b → is_digit b ≡ false
-digit_high b h = grind (arith, nat_tests)
+pub digit_no : (b : ℕ) → (digit_value b < 10 → ⊥) → is_digit b ≡ false
+digit_no b none = grind (arith, nat_tests)
 
 module _ (xs : List ℕ) (i : ℕ) (l : i < length xs) where
   step : all_digits (drop i xs) ≡ (is_digit (get_or xs i 0) && all_digits (drop (i + 1) xs))

@@ -12,3 +12,6 @@ max_arrivals = 256
 
 abbrev pub max_time : ℕ
 max_time = 4095
+
+abbrev pub max_number : ℕ
+max_number = 999999999

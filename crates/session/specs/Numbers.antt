@@ -1,6 +1,7 @@
 -- Numbers: 1 to 9 digits, leading zeros allowed.
-use Rattle.std.specs.Prelude.{ℕ, ◌+◌, ◌-◌, ◌*◌, Bool, true, cond, ◌&&◌, List, [], ◌∷◌, length, Some, None, Option, nat_le}
+use Rattle.std.specs.Prelude.{◌≡◌, ℕ, ◌+◌, ◌-◌, ◌*◌, ◌≤◌, Bool, true, cond, ◌&&◌, List, [], ◌∷◌, length, Some, None, Option, nat_le}
 use Rattle.session.specs.Bytes.{is_digit}
+use Rattle.session.specs.Limits.{max_number}
 
 abbrev pub all_digits : List ℕ → Bool
 all_digits [] = true
@@ -17,3 +18,7 @@ value_after n (b ∷ bs) = value_after (n * 10 + (b - 48)) bs
 -- The number that a field is, if it is one.
 abbrev pub number_in : List ℕ → Option ℕ
 number_in bs = cond (is_number bs) (Some (value_after 0 bs)) None
+
+-- A field is the number n, which is in the limit then.
+abbrev pub NumberOf : List ℕ → ℕ → Type 0
+NumberOf bs n = (number_in bs ≡ Some n) × (n ≤ max_number)

@@ -1,6 +1,6 @@
 // A field of a line, and the number that it is.
-ghost use Rattle.std.specs.Prelude.{◌≡◌, ◌<◌, ◌≤◌, length, Some, None, MatchResult};
-ghost use Rattle.session.specs.Numbers.{number_in};
+ghost use Rattle.std.specs.Prelude.{◌≡◌, ◌≤◌, length, None, MatchResult};
+ghost use Rattle.session.specs.Numbers.{number_in, NumberOf};
 
 // A part of the file's own bytes, with the place at which it begins.
 #[derive(Clone, Copy)]
@@ -17,7 +17,7 @@ pub enum FieldFault {
 
 // The number that some bytes are: 1 to 9 digits.
 pub fn number(bytes: &[u8]) -> Result<u32, FieldFault>
-    ensures { MatchResult result (λ n. (number_in bytes.now ≡ Some n) × (n < 1000000000)) (λ _. number_in bytes.now ≡ None) }
+    ensures { MatchResult result (NumberOf bytes.now) (λ _. number_in bytes.now ≡ None) }
 {
     if bytes.is_empty() || bytes.len() > 9 {
         return Err(FieldFault::NotANumber);
@@ -29,14 +29,14 @@ pub fn number(bytes: &[u8]) -> Result<u32, FieldFault>
 fn value_of(bytes: &[u8]) -> Result<u32, FieldFault>
     requires some { 1 ≤ length bytes.now }
     requires few { length bytes.now ≤ 9 }
-    ensures { MatchResult result (λ n. (number_in bytes.now ≡ Some n) × (n < 1000000000)) (λ _. number_in bytes.now ≡ None) }
+    ensures { MatchResult result (NumberOf bytes.now) (λ _. number_in bytes.now ≡ None) }
 {
-    let mut value: u32 = 0;
+    let mut value = 0;
     for byte in bytes {
-        if *byte < b'0' || *byte > b'9' {
+        let Some(digit) = char::from(*byte).to_digit(10) else {
             return Err(FieldFault::NotANumber);
-        }
-        value = value * 10 + u32::from(*byte - b'0');
+        };
+        value = value * 10 + digit;
     }
     Ok(value)
 }

@@ -1,6 +1,7 @@
 // The rows of a session file.
-ghost use Rattle.std.specs.Prelude.{◌≡◌, ◌<◌, length, MatchResult};
+ghost use Rattle.std.specs.Prelude.{◌≡◌, ◌≤◌, length, MatchResult};
 ghost use Rattle.feasibility.specs.Contents.{rows_of};
+ghost use Rattle.session.specs.Limits.{max_number};
 ghost use Rattle.session.specs.Reading.{left};
 ghost use Rattle.session.specs.Sections.{RowLine, WrongRow, RowsRead, RowFault};
 
@@ -22,7 +23,7 @@ pub(crate) fn read_row(reader: &mut Reader, draft: &mut Draft) -> Result<(), Lin
 
 // Adds the rows of the next `count` lines, of which the first is line 2.
 pub(crate) fn read_rows(reader: &mut Reader, count: u32) -> Result<Draft, PlacedFault>
-    requires { count < 1000000000 }
+    requires { count ≤ max_number }
     ensures { MatchResult result (λ d. RowsRead (left reader.old) (rows_of d.rows) (left reader.new) × (length (rows_of d.rows) ≡ count)) (λ f. RowFault count (left reader.old) f.fault f.line) }
 {
     let mut draft = Draft::new();

@@ -1,13 +1,14 @@
 // A line as a whole: so many fields, and a line feed.
-ghost use Rattle.std.specs.Prelude.{◌≡◌, ◌<◌, false, ◌≢◌, [], ◌∷◌, map, Some, MatchResult};
+ghost use Rattle.std.specs.Prelude.{◌≡◌, ◌≤◌, false, ◌≢◌, [], ◌∷◌, map, Some, MatchResult};
 ghost use Rattle.session.specs.Lines.{next_line, with_field, has, NoField};
 ghost use Rattle.session.specs.LineKinds.{LineOf, Misshapen, WrongLine};
+ghost use Rattle.session.specs.Limits.{max_number};
 ghost use Rattle.session.specs.Reading.{left};
 ghost use Rattle.session.specs.Sections.{LimitedHeading, WrongHeading};
 ghost use Rattle.session.specs.declared.fault.LineFault.TheVariants.{Shape};
 
 use crate::fault::LineFault;
-use crate::field::{Field, number};
+use crate::field::{Field, FieldFault, number};
 use crate::reader::Reader;
 
 impl<'a> Reader<'a> {
@@ -22,21 +23,18 @@ impl<'a> Reader<'a> {
     fn end_line(&mut self) -> Result<(), LineFault>
         ensures { MatchResult result (λ _. next_line (left self.old) ≡ Some ([], left self.new)) (λ e. (e ≡ Shape) × (has 0 (next_line (left self.old)) ≡ false)) }
     {
-        if let Some(_) = self.next_field() {
-            return Err(LineFault::Shape);
-        }
-        if self.at == self.input.len() {
+        if self.next_field().is_some() || self.at == self.input.len() {
             return Err(LineFault::Shape);
         }
         self.at += 1;
         Ok(())
     }
 
-    // The numbers of a line that has so many.
+    // The numbers of a line that has so many. All its fields are taken before a fault in one of them is told.
     pub(crate) fn numbers<const N: usize>(&mut self) -> Result<[u32; N], LineFault>
         ensures { MatchResult result (λ ns. LineOf [] (left self.old) ns (left self.new)) (λ e. WrongLine [] N (left self.old) e) }
     {
-        let mut answers = [Ok(0); N];
+        let mut answers: [Result<u32, FieldFault>; N] = [Ok(0); N];
         for answer in &mut answers {
             *answer = number(self.field()?.bytes);
         }
@@ -64,7 +62,7 @@ impl<'a> Reader<'a> {
 
     // A line of a word and a number.
     pub(crate) fn heading(&mut self, word: &[u8]) -> Result<u32, LineFault>
-        ensures { MatchResult result (λ n. LineOf (word.now ∷ []) (left self.old) (n ∷ []) (left self.new) × (n < 1000000000)) (λ e. WrongLine (word.now ∷ []) 1 (left self.old) e) }
+        ensures { MatchResult result (λ n. LineOf (word.now ∷ []) (left self.old) (n ∷ []) (left self.new) × (n ≤ max_number)) (λ e. WrongLine (word.now ∷ []) 1 (left self.old) e) }
     {
         let value = self.field_after(word)?;
         Ok(number(value.bytes)?)

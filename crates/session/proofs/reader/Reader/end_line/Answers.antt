@@ -1,18 +1,44 @@
-use Rattle.std.proofs.Common.{◌<◌, length, sym, refl, ap, ◌∙◌, arith}
-use Rattle.session.proofs.Scanning.{line_ended}
+use Rattle.session.proofs.Scanning.{has_none, line_ended}
 use Rattle.session.proofs.reader.Reader.end_line.Goals as goal
+use Rattle.session.proofs.reader.Reader.end_line.Goals.{then-is_some-via-then-is_some, then-is_some-via-else-is_some+then-self}
 use Rattle.session.specs.Lines.{has, next_line}
+use Rattle.session.specs.Reading.{left}
 use Rattle.std.proofs.lemmas.List.{drop_all}
+use Rattle.std.specs.Option.{is_some}
+use Rattle.std.proofs.Common.{◌≡◌, ◌<◌, true, false, length, Some, None, Option, MatchOption, sym, refl, ap, ◌∙◌, arith}
 
-pub returns-then-self : goal.returns-then-self
-returns-then-self c =
+where_some :
+    {A : Type 0} (o : Option A) (P R : Type 0) (Q : A → Type 0) → is_some o ≡ true → MatchOption o P Q →
+    ((x : A) → Q x → R) → R
+where_some None P R Q is m each = cc
+where_some (Some x) P R Q is m each = each x m
+
+where_none : {A : Type 0} (o : Option A) (P : Type 0) (Q : A → Type 0) → is_some o ≡ false → MatchOption o P Q → P
+where_none None P Q is m = m
+where_none (Some x) P Q is m = cc
+
+pub returns-then-is_some : goal.returns-then-is_some
+returns-then-is_some c =
     let s = c.next_field.new.self in
-    let line = c.in_default.ensures.line in
-    (refl, ap (has 0) (sym line.0) ∙ ap (λ bs. has 0 (next_line bs)) (drop_all s.at s.input.now (omega (arith, c.if-self.true))))
+    let line = c.next_field.ensures.line in
+    let now = next_line (left s) in
+    elim c.then-is_some.branch [
+      | then-is_some-via-then-is_some w ↦ (
+        refl,
+        where_some c.next_field.result _ _ _ (sym c.is_some.ensures ∙ w.if-is_some.true) line
+            (λ f is. ap (has 0) is ∙ has_none f.bytes.now now),
+      )
+      | then-is_some-via-else-is_some+then-self w ↦
+          let over = where_none c.next_field.result _ _ (sym c.is_some.ensures ∙ w.if-is_some.false) line in (
+            refl,
+            ap (has 0) (sym over.0) ∙
+                ap (λ bs. has 0 (next_line bs)) (drop_all s.at s.input.now (omega (arith, w.if-self.true))),
+          )
+    ]
 
 pub returns : goal.returns
 returns c =
     let s = c.next_field.new.self in
-    let line = c.in_default.ensures.line in
+    let over = where_none c.next_field.result _ _ (sym c.is_some.ensures ∙ c.if-is_some.false) c.next_field.ensures.line in
     let inside : s.at < length s.input.now = omega (arith, s.within, c.if-self.false) in
-    sym line.0 ∙ line_ended s.input.now s.at inside line.1
+    sym over.0 ∙ line_ended s.input.now s.at inside over.1
