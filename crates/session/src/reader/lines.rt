@@ -1,5 +1,5 @@
 // A line as a whole: so many fields, and a line feed.
-ghost use Rattle.std.specs.Prelude.{◌≡◌, ◌≤◌, false, ◌≢◌, [], ◌∷◌, map, Some, MatchResult};
+ghost use Rattle.std.specs.Prelude.{◌≡◌, ◌≤◌, false, ◌≢◌, [], ◌∷◌, Some, MatchBool, MatchResult};
 ghost use Rattle.session.specs.Lines.{next_line, with_field, has, NoField};
 ghost use Rattle.session.specs.LineKinds.{LineOf, Misshapen, WrongLine};
 ghost use Rattle.session.specs.Limits.{max_number};
@@ -23,7 +23,7 @@ impl<'a> Reader<'a> {
     fn end_line(&mut self) -> Result<(), LineFault>
         ensures { MatchResult result (λ _. next_line (left self.old) ≡ Some ([], left self.new)) (λ e. (e ≡ Shape) × (has 0 (next_line (left self.old)) ≡ false)) }
     {
-        if self.next_field().is_some() || self.at == self.input.len() {
+        if self.next_field().is_some() || self.is_at_end() {
             return Err(LineFault::Shape);
         }
         self.at += 1;
@@ -79,11 +79,18 @@ impl<'a> Reader<'a> {
         Ok(n)
     }
 
+    // Whether the file is read to its end.
+    fn is_at_end(&self) -> bool
+        ensures { MatchBool result (left self.now ≡ []) (left self.now ≢ []) }
+    {
+        self.at == self.input.len()
+    }
+
     // The end of the file, after its last line.
     pub(crate) fn end(&self) -> Result<(), LineFault>
         ensures { MatchResult result (λ _. left self.now ≡ []) (λ e. (e ≡ Shape) × (left self.now ≢ [])) }
     {
-        if self.at == self.input.len() {
+        if self.is_at_end() {
             Ok(())
         } else {
             Err(LineFault::Shape)

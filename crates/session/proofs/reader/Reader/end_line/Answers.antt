@@ -1,11 +1,11 @@
 use Rattle.session.proofs.Scanning.{has_none, line_ended}
 use Rattle.session.proofs.reader.Reader.end_line.Goals as goal
-use Rattle.session.proofs.reader.Reader.end_line.Goals.{then-is_some-via-then-is_some, then-is_some-via-else-is_some+then-self}
+use Rattle.session.proofs.reader.Reader.end_line.Goals.{then-is_some-via-then-is_some, then-is_some-via-else-is_some+then-is_at_end}
 use Rattle.session.specs.Lines.{has, next_line}
 use Rattle.session.specs.Reading.{left}
-use Rattle.std.proofs.lemmas.List.{drop_all}
+use Rattle.session.specs.Scans.{line_over}
 use Rattle.std.specs.Option.{is_some}
-use Rattle.std.proofs.Common.{◌≡◌, ◌<◌, true, false, length, Some, None, Option, MatchOption, sym, refl, ap, ◌∙◌, arith}
+use Rattle.std.proofs.Common.{◌≡◌, true, false, drop, Some, None, Option, MatchOption, sym, refl, ap, ◌∙◌}
 
 where_some :
     {A : Type 0} (o : Option A) (P R : Type 0) (Q : A → Type 0) → is_some o ≡ true → MatchOption o P Q →
@@ -19,26 +19,22 @@ where_none (Some x) P Q is m = cc
 
 pub returns-then-is_some : goal.returns-then-is_some
 returns-then-is_some c =
-    let s = c.next_field.new.self in
     let line = c.next_field.ensures.line in
-    let now = next_line (left s) in
     elim c.then-is_some.branch [
       | then-is_some-via-then-is_some w ↦ (
         refl,
         where_some c.next_field.result _ _ _ (sym c.is_some.ensures ∙ w.if-is_some.true) line
-            (λ f is. ap (has 0) is ∙ has_none f.bytes.now now),
+            (λ f is. ap (has 0) is ∙ has_none f.bytes.now (next_line (left c.next_field.new.self))),
       )
-      | then-is_some-via-else-is_some+then-self w ↦
-          let over = where_none c.next_field.result _ _ (sym c.is_some.ensures ∙ w.if-is_some.false) line in (
-            refl,
-            ap (has 0) (sym over.0) ∙
-                ap (λ bs. has 0 (next_line bs)) (drop_all s.at s.input.now (omega (arith, w.if-self.true))),
-          )
+      | then-is_some-via-else-is_some+then-is_at_end w ↦
+          let over = where_none c.next_field.result _ _ (sym c.is_some.ensures ∙ w.if-is_some.false) line in
+          (refl, ap (has 0) (sym over.0) ∙ ap (λ bs. has 0 (next_line bs)) w.if-is_at_end.ensures)
     ]
 
 pub returns : goal.returns
 returns c =
-    let s = c.next_field.new.self in
+    let s = c.self.inside in
     let over = where_none c.next_field.result _ _ (sym c.is_some.ensures ∙ c.if-is_some.false) c.next_field.ensures.line in
-    let inside : s.at < length s.input.now = omega (arith, s.within, c.if-self.false) in
-    sym over.0 ∙ line_ended s.input.now s.at inside over.1
+    let is : drop s.at s.input.now ≡ left c.next_field.new.self = ap left c.self.view_is in
+    sym over.0 ∙ ap next_line (sym is) ∙
+    line_ended s.input.now s.at (λ none. c.if-is_at_end.ensures (sym is ∙ none)) (ap line_over is ∙ over.1)
