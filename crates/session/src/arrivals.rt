@@ -7,9 +7,12 @@ mod reading;
 use crate::arrival::Arrival;
 pub(crate) use reading::read_arrivals;
 
+// A session has no more of them.
+pub(crate) const MAX_ARRIVALS: usize = 256;
+
 #[derive(Clone, Copy)]
 pub struct Arrivals {
-    cells: [Arrival; 256],
+    cells: [Arrival; MAX_ARRIVALS],
     count: u32,
     ghost few: { count ≤ max_arrivals },
     ghost counted: { length (take count cells) ≡ count },

@@ -3,7 +3,7 @@ ghost use Rattle.std.specs.Prelude.{◌≡◌, ◌≤◌, length, None, MatchRes
 ghost use Rattle.session.specs.Numbers.{number_in, NumberOf};
 
 // A part of the file's own bytes, with the place at which it begins.
-#[derive(Clone, Copy)]
+#[derive(Clone, Copy, PartialEq, Eq, Debug)]
 pub struct Field<'a> {
     pub bytes: &'a [u8],
     pub at: usize,

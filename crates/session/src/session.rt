@@ -7,7 +7,7 @@ ghost use Rattle.session.specs.declared.fault.LineFault.TheVariants.{Shape};
 ghost use Rattle.session.specs.Sections.{LimitedHeading, WrongHeading};
 ghost use Rattle.session.specs.Sessions.{BeginsWithRows, FirstWrong, IsSession, IsFault};
 
-use crate::arrivals::{Arrivals, read_arrivals};
+use crate::arrivals::{Arrivals, MAX_ARRIVALS, read_arrivals};
 use crate::fault::{Fault, PlacedFault};
 use crate::reader::Reader;
 use crate::rows::read_rows;
@@ -16,8 +16,6 @@ use feasibility::{Draft, Table};
 const MAX_BYTES: usize = 16_384;
 
 const MAX_TICKS: u32 = 4_096;
-
-const MAX_ARRIVALS: u32 = 256;
 
 #[derive(Clone, Copy)]
 pub struct Session {
@@ -46,7 +44,7 @@ fn read_sections(bytes: &[u8]) -> Result<Session, PlacedFault>
         .limited_heading(b"ticks", MAX_TICKS)
         .map_err(|fault| fault.at(rows + 2))?;
     let count = reader
-        .limited_heading(b"arrivals", MAX_ARRIVALS)
+        .limited_heading(b"arrivals", MAX_ARRIVALS as u32)
         .map_err(|fault| fault.at(rows + 3))?;
     let arrivals = read_arrivals(&mut reader, rows, count, rows + 4)?;
     reader.end().map_err(|fault| fault.at(rows + count + 4))?;

@@ -5,7 +5,7 @@ ghost use Rattle.session.specs.Reading.{left, arrivals_of};
 ghost use Rattle.session.specs.Sections.{ArrivalLine, WrongArrival, ArrivalsRead, ArrivalFault};
 
 use crate::arrival::Arrival;
-use crate::arrivals::Arrivals;
+use crate::arrivals::{Arrivals, MAX_ARRIVALS};
 use crate::fault::{LineFault, PlacedFault};
 use crate::reader::Reader;
 
@@ -16,7 +16,7 @@ impl Arrivals {
         ensures { arrivals_of result ≡ [] }
     {
         Arrivals {
-            cells: [Arrival { time: 0, row: 0 }; 256],
+            cells: [Arrival { time: 0, row: 0 }; MAX_ARRIVALS],
             count: 0,
         }
     }
@@ -25,7 +25,7 @@ impl Arrivals {
     pub fn as_slice(&self) -> &[Arrival]
         ensures { result.now ≡ arrivals_of self.now }
     {
-        &self.cells[0..self.count as usize]
+        &self.cells[..self.count as usize]
     }
 
     // One more at the end.
