@@ -1,11 +1,10 @@
-use Rattle.session.proofs.Wrong.{line_right, line_wrong}
+use Rattle.session.proofs.Wrong.{line_right}
 use Rattle.session.proofs.arrivals.reading.read_arrivals.Goals as goal
 use Rattle.session.specs.Reading.{left, arrivals_of}
 use Rattle.session.specs.Sections.{ArrivalsRead}
 use Rattle.session.specs.Sections.ArrivalsRead.{none_yet, one_more}
 use Rattle.std.proofs.lemmas.List.{length_push}
-use Rattle.std.proofs.lemmas.Result.{err_from_is_err_and}
-use Rattle.std.proofs.Common.{length, sym, ap, ◌∙◌, subst, arith, rules}
+use Rattle.std.proofs.Common.{length, sym, ap, subst, arith}
 
 pub loop-line-init : goal.loop-line-init
 loop-line-init c =
@@ -13,23 +12,6 @@ loop-line-init c =
       subst (λ xs. ArrivalsRead c.args.rows bs xs bs) (sym c.new-arrivals.ensures) none_yet,
       omega (arith, ap length c.new-arrivals.ensures),
     )
-
-pub returns-in_err-map_err : goal.returns-in_err-map_err
-returns-in_err-map_err c =
-    let p = err_from_is_err_and c.from_residual.result c.from_residual.ensures.1 in
-    let l = c.loop-line in
-    let wrong
-    = line_wrong _ _ _ l.line-counter c.read_arrival.result c.map_err.result c.read_arrival.ensures
-    c.map_err.ensures.cases c.in_err-map_err.was (λ e p k. search rules) in
-    rw (p.1, p.2)
-    record {
-      arrivals = arrivals_of l.arrivals;
-      rest = left l.reader;
-      read = l.invariant.0;
-      fewer = omega (arith, l.invariant.1, c.loop-line-test.true);
-      wrong = wrong.0;
-      line_is = wrong.1 ∙ sym l.invariant.1;
-    }
 
 pub loop-line-preserved : goal.loop-line-preserved
 loop-line-preserved c =
@@ -48,8 +30,3 @@ loop-line-preserved c =
         length_push (arrivals_of c.loop-line.arrivals) a,
       ),
     )
-
-pub returns : goal.returns
-returns c =
-    let l = c.loop-line in
-    (l.invariant.0, omega (arith, l.invariant.1, l.auto.line-counter-end, c.loop-line-test.false))

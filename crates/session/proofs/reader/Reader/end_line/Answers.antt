@@ -1,11 +1,10 @@
-use Rattle.session.proofs.Scanning.{has_none, line_ended}
+use Rattle.session.proofs.Scanning.{has_none}
 use Rattle.session.proofs.reader.Reader.end_line.Goals as goal
 use Rattle.session.proofs.reader.Reader.end_line.Goals.{then-is_some-via-then-is_some, then-is_some-via-else-is_some+then-is_at_end}
 use Rattle.session.specs.Lines.{has, next_line}
 use Rattle.session.specs.Reading.{left}
-use Rattle.session.specs.Scans.{line_over}
 use Rattle.std.specs.Option.{is_some}
-use Rattle.std.proofs.Common.{◌≡◌, true, false, drop, Some, None, Option, MatchOption, sym, refl, ap, ◌∙◌}
+use Rattle.std.proofs.Common.{◌≡◌, true, false, Some, None, Option, MatchOption, sym, refl, ap, ◌∙◌}
 
 where_some :
     {A : Type 0} (o : Option A) (P R : Type 0) (Q : A → Type 0) → is_some o ≡ true → MatchOption o P Q →
@@ -30,11 +29,3 @@ returns-then-is_some c =
           let over = where_none c.next_field.result _ _ (sym c.is_some.ensures ∙ w.if-is_some.false) line in
           (refl, ap (has 0) (sym over.0) ∙ ap (λ bs. has 0 (next_line bs)) w.if-is_at_end.ensures)
     ]
-
-pub returns : goal.returns
-returns c =
-    let s = c.self.inside in
-    let over = where_none c.next_field.result _ _ (sym c.is_some.ensures ∙ c.if-is_some.false) c.next_field.ensures.line in
-    let is : drop s.at s.input.now ≡ left c.next_field.new.self = ap left c.self.view_is in
-    sym over.0 ∙ ap next_line (sym is) ∙
-    line_ended s.input.now s.at (λ none. c.if-is_at_end.ensures (sym is ∙ none)) (ap line_over is ∙ over.1)

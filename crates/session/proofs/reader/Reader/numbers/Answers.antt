@@ -1,30 +1,12 @@
-use Rattle.session.proofs.Answering.{
-  Answered,
-  all_answered,
-  answer_is,
-  are_numbers,
-  how_many,
-  no_answer,
-  none_answered,
-  one_answered,
-  too_few,
-  uneven,
-  whole,
-}
+use Rattle.session.proofs.Answering.{Answered, all_answered, answer_is, are_numbers, how_many, no_answer, one_answered, too_few, whole}
 use Rattle.session.proofs.Shapes.{count_wrong}
 use Rattle.session.proofs.reader.Reader.numbers.Goals as goal
-use Rattle.session.specs.Lines.{has, next_line}
+use Rattle.session.specs.Lines.{next_line}
 use Rattle.session.specs.Reading.{left}
-use Rattle.std.proofs.lemmas.List.{length-replicate, length-take, map_more, take_all, take_more_set, map_push}
+use Rattle.std.proofs.lemmas.List.{length-take, take_all, take_more_set}
 use Rattle.std.proofs.lemmas.Result.{err_from_is_err_and}
 use Rattle.std.specs.Result.{result_ok}
-use Rattle.std.proofs.Common.{◌≡◌, take, ◌++◌, ◌∷◌, [], false, map, Some, Ok, sym, refl, ap, ap₂, ◌∙◌, subst, arith, length-set}
-
-pub loop-answer-init : goal.loop-answer-init
-loop-answer-init g c = record {
-  so_far = none_answered (next_line (left c.args.self.now));
-  room = length-replicate g.row.N (Ok 0);
-}
+use Rattle.std.proofs.Common.{map, Some, Ok, sym, ap, ◌∙◌, subst, arith, length-set}
 
 pub returns-in_err-field : goal.returns-in_err-field
 returns-in_err-field g c =
@@ -47,19 +29,6 @@ loop-answer-preserved g c =
       room = length-set l.answer-items l.answer-index c.number.result ∙ l.invariant.room;
     }
 
-pub returns-in_err-end_line : goal.returns-in_err-end_line
-returns-in_err-end_line g c =
-    let p = err_from_is_err_and c.from_residual-in_err-end_line.result c.from_residual-in_err-end_line.ensures.1 in
-    let l = c.loop-answer in
-    let e = c.in_err-end_line.ensures in
-    let a = all_answered l.answer-index l.answer-items l.invariant.so_far (omega (arith, l.invariant.room, c.loop-answer-test.false)) in
-    rw (p.1, p.2, e.0)
-    (count_wrong g.row.N (left c.args.self.now)
-    (subst (λ n. has n (next_line (left c.args.self.now)) ≡ false) l.invariant.room (uneven a e.1)))
-
-pub loop-i-init : goal.loop-i-init
-loop-i-init g c = record { so_far = refl; room = length-replicate g.row.N 0 }
-
 pub returns-in_err-numbers : goal.returns-in_err-numbers
 returns-in_err-numbers g c =
     let p = err_from_is_err_and c.from_residual-in_err-numbers.result c.from_residual-in_err-numbers.ensures.1 in
@@ -74,19 +43,6 @@ returns-in_err-numbers g c =
       not_all =
           no_answer a.fields l.answer-items c.loop-i.i (Ok 0) a.numbers
           (omega (arith, l.invariant.room, c.loop-i-test.true)) (ap result_ok c.in_err-numbers.was);
-    }
-
-pub loop-i-preserved : goal.loop-i-preserved
-loop-i-preserved g c =
-    let l = c.loop-i in
-    let within = c.loop-i-test.true in
-    record {
-      so_far =
-          map_more result_ok c.loop-answer.answer-items l.i (Ok 0) (omega (arith, c.loop-answer.invariant.room, within)) ∙
-          ap₂ (λ ns n. ns ++ n ∷ []) l.invariant.so_far (ap result_ok c.in_ok-numbers.was) ∙
-          sym (map_push Some (take l.i l.numbers) c.in_ok-numbers.field-0) ∙
-          ap (map Some) (sym (take_more_set l.numbers l.i c.in_ok-numbers.field-0 (omega (arith, l.invariant.room, within))));
-      room = length-set l.numbers l.i c.in_ok-numbers.field-0 ∙ l.invariant.room;
     }
 
 pub returns : goal.returns
