@@ -16,10 +16,6 @@ abbrev pub with_fields : List (List ℕ) → Option (List (List ℕ) × List ℕ
 with_fields fs None = None
 with_fields fs (Some p) = Some (fs ++ p.0, p.1)
 
-with_none : (o : Line) → o ≡ with_fields [] o
-with_none None = refl
-with_none (Some p) = refl
-
 with_more : (fs : List (List ℕ)) (f : List ℕ) (o : Line) → with_fields fs (with_field f o) ≡ with_fields (fs ++ f ∷ []) o
 with_more fs f None = refl
 with_more fs f (Some p) = ap (λ gs. Some (gs, p.1)) (sym (append_assoc fs (f ∷ []) p.0))
@@ -34,9 +30,6 @@ pub record Answered
   pub fields : List (List ℕ)
   pub front : o ≡ with_fields fields o'
   pub numbers : map number_in fields ≡ map result_ok answers
-
-pub none_answered : (o : Line) → Answered o o []
-none_answered o = record { fields = []; front = with_none o; numbers = refl }
 
 pub one_answered :
     {o o' o'' : Line} {answers : List (Result ℕ FieldFault)} (f : List ℕ) (a : Result ℕ FieldFault) →
@@ -60,15 +53,6 @@ module _ {o o' : Line} {answers : List (Result ℕ FieldFault)} (a : Answered o 
 
   pub too_few : (n : ℕ) → NoField o' → length answers < n → has n o ≡ false
   too_few n none less = ap (has n) a.front ∙ has_more a.fields n o' none (omega (arith, how_many))
-
-  pub uneven : has 0 o' ≡ false → has (length answers) o ≡ false
-  uneven more = ap (has (length answers)) a.front ∙ at o' more
-    where
-      at : (l : Line) → has 0 l ≡ false → has (length answers) (with_fields a.fields l) ≡ false
-      at None _ = refl
-      at (Some p) e =
-          ne_eqb (length (a.fields ++ p.0)) (length answers)
-          (λ same. eqb-false (length p.0) 0 e (omega (arith, how_many, same, length-append a.fields p.0)))
 
   pub whole : (rest : List ℕ) → o' ≡ Some ([], rest) → o ≡ Some (a.fields, rest)
   whole rest over = a.front ∙ ap (with_fields a.fields) over ∙ ap (λ fs. Some (fs, rest)) (append-nil a.fields)

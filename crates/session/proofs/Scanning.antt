@@ -1,13 +1,14 @@
 -- Steps of the loops that find the next field, and what a line is before and after it.
 use Rattle.std.proofs.Common.{◌≡◌, ℕ, ◌+◌, ◌-◌, ◌<◌, ◌≤◌, Bool, true, false, cond, eqb, MatchBool, ◌⊎◌, List, [], ◌∷◌, length, get_or, drop, Some, None, Option, sym, refl, ap, ◌∙◌, subst, ap₂, inl, inr, take, one-add, arith}
 use Rattle.session.specs.Bytes.{is_space, is_feed, in_field}
-use Rattle.session.specs.Lines.{with_byte, first_line, ends_field, glued, fields, in_fields, next_line, with_field, has, NoField}
+use Rattle.session.specs.Lines.{with_byte, first_line, ends_field, glued, fields, in_fields, next_line, with_field, has}
 use Rattle.session.specs.Places.{Run}
 use Rattle.session.specs.Scans.{past_spaces, front_field, past_field, line_over}
 use Rattle.std.proofs.lemmas.List.Edits.{between_none, length-between}
 use Rattle.std.proofs.lemmas.List.Sums.{prefix_len-le-length, prefix_len_passes, prefix_len_stops}
-use Rattle.std.proofs.lemmas.List.{drop-drop, drop_all, drop_more, get_or-drop, length-drop}
-use Rattle.std.proofs.lemmas.Bool.{both_ways, cases_Bool, cases_lt, cond-false, cond-true, eqb-false, eqb-true, ne_eqb}
+use Rattle.std.proofs.lemmas.List.{drop-drop, drop_all, get_or-drop, length-drop}
+use Rattle.std.proofs.lemmas.Bool.{both_ways, cases_Bool, cond-false, cond-true, eqb-false, eqb-true, ne_eqb}
+use Rattle.std.proofs.lemmas.Option.{none-some}
 use Rattle.std.proofs.lemmas.Bool.Decides.{nat_tests}
 use Rattle.std.specs.List.{between, prefix_len}
 
@@ -123,9 +124,6 @@ stop (b ∷ bs) o e = at (stop bs o) (cases_Bool (in_field b))
             spaced (Some p) = space
 
 -- a byte of a field, before the end of the field and before another byte of it
-none_some : (p : List (List ℕ) × List ℕ) → ◌≡◌ {A = Option (List (List ℕ) × List ℕ)} None (Some p) → ⊥
-none_some p e = let z : ◌≡◌ {A = ℕ} 0 1 = cc in omega arith
-
 module _ (b : ℕ) (inside : is_space b ≡ false) where
   glue : (bs : List ℕ) → fields (b ∷ bs) ≡ glued b (ends_field bs) (fields bs)
   glue bs = cond-false (is_space b) (fields bs) (glued b (ends_field bs) (fields bs)) inside
@@ -141,8 +139,8 @@ module _ (b : ℕ) (inside : is_space b ≡ false) where
       is_space c ≡ false → in_fields (with_byte c o) ≡ with_field f n →
       in_fields (with_byte b (with_byte c o)) ≡ with_field (b ∷ f) n
   glue_more c f None None other e = refl
-  glue_more c f None (Some n) other e = absurd (none_some _ e)
-  glue_more c f (Some p) None other e = absurd (none_some _ (sym e))
+  glue_more c f None (Some n) other e = absurd (none-some _ e)
+  glue_more c f (Some p) None other e = absurd (none-some _ (sym e))
   glue_more c f (Some p) (Some n) other e =
       let same = same_parts e in
       let is : fields (b ∷ c ∷ p.0) ≡ (b ∷ f) ∷ n.0
@@ -263,13 +261,6 @@ pub has_none : (f : List ℕ) (o : Option (List (List ℕ) × List ℕ)) → has
 has_none f None = refl
 has_none f (Some p) = ne_eqb (length (f ∷ p.0)) 0 (λ e. omega arith)
 
-pub over_has : (bs : List ℕ) → line_over bs ≡ true → NoField (next_line bs)
-over_has [] over = λ n. refl
-over_has (b ∷ bs) over = subst NoField (sym is) (λ n. grind (arith, nat_tests))
-  where
-    is : next_line (b ∷ bs) ≡ Some ([], bs)
-    is = ap in_fields (cond-true (is_feed b) (Some ([], bs)) (with_byte b (first_line bs)) over)
-
 -- whether anything is left
 pub at_end :
     (xs : List ℕ) (i : ℕ) → i ≤ length xs → MatchBool (eqb i (length xs)) (drop i xs ≡ []) (drop i xs ≡ [] → ⊥)
@@ -278,17 +269,3 @@ at_end xs i within = by (eqb i (length xs)) refl
     by : (b : Bool) → eqb i (length xs) ≡ b → MatchBool b (drop i xs ≡ []) (drop i xs ≡ [] → ⊥)
     by true e = drop_all i xs (omega (arith, eqb-true i (length xs) e))
     by false e = λ none. eqb-false i (length xs) e (omega (arith, within, length-drop i xs, ap length none))
-
-pub line_ended :
-    (xs : List ℕ) (i : ℕ) → (drop i xs ≡ [] → ⊥) → line_over (drop i xs) ≡ true →
-    next_line (drop i xs) ≡ Some ([], drop (i + 1) xs)
-line_ended xs i some over = by (cases_lt i (length xs))
-  where
-    by : (i < length xs) ⊎ (length xs ≤ i) → next_line (drop i xs) ≡ Some ([], drop (i + 1) xs)
-    by (inr all) = absurd (some (drop_all i xs all))
-    by (inl l) =
-        let at = drop_more xs i 0 l in
-        ap next_line at ∙
-        ap in_fields
-        (cond-true (is_feed (get_or xs i 0)) (Some ([], drop (i + 1) xs)) (with_byte (get_or xs i 0) (first_line (drop (i + 1) xs)))
-        (ap line_over (sym at) ∙ over))

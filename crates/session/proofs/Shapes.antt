@@ -5,6 +5,7 @@ use Rattle.session.specs.LineKinds.{AreNumbers, Misshapen}
 use Rattle.session.specs.Lines.{has, NoField, next_line, with_field}
 use Rattle.session.specs.Numbers.{number_in}
 use Rattle.std.proofs.lemmas.List.{append_cancel_left}
+use Rattle.std.proofs.lemmas.Option.{none-some}
 use Rattle.std.proofs.lemmas.Bool.{eqb-false}
 use Rattle.std.proofs.lemmas.Bool.Decides.{nat_tests}
 
@@ -14,16 +15,11 @@ pub count_wrong :
     next_line bs ≡ Some (fields, rest) → length fields ≢ n
 count_wrong n bs wrong fields rest line = eqb-false (length fields) n (ap (has n) (sym line) ∙ wrong)
 
--- a line that begins with another word
-first_of : Option (List (List ℕ) × List ℕ) → List (List ℕ)
-first_of None = []
-first_of (Some p) = p.0
-
 has_after : (f : List ℕ) (n : ℕ) (o : Option (List (List ℕ) × List ℕ)) → has (n + 1) (with_field f o) ≡ has n o
 has_after f n None = refl
 has_after f n (Some p) = grind (arith, nat_tests)
 
--- a heading whose word or number is not there, or that more follows
+-- a heading whose word or number is not there
 pub no_heading :
     (word bs : List ℕ) → has 2 (next_line bs) ≡ false → Misshapen (word ∷ []) 1 bs
 no_heading word bs none fields rest line =
@@ -33,32 +29,10 @@ module _ (word name bs : List ℕ) (o : Option (List (List ℕ) × List ℕ)) (f
   pub no_value : NoField o → Misshapen (word ∷ []) 1 bs
   no_value none = no_heading word bs (ap (has 2) first ∙ has_after name 1 o ∙ none 0)
 
-  module _ (value : List ℕ) (o' : Option (List (List ℕ) × List ℕ)) (second : o ≡ with_field value o') where
-    pub more_than_value : has 0 o' ≡ false → Misshapen (word ∷ []) 1 bs
-    more_than_value more =
-        no_heading word bs
-        (ap (has 2) first ∙ has_after name 1 o ∙ ap (has 1) second ∙ has_after value 0 o' ∙ more)
-
-    module _ (rest : List ℕ) (over : o' ≡ Some ([], rest)) where
-      two_fields : next_line bs ≡ Some (name ∷ value ∷ [], rest)
-      two_fields = first ∙ ap (with_field name) (second ∙ ap (with_field value) over)
-
-      pub the_word : name ≡ word → next_line bs ≡ Some (word ∷ value ∷ [], rest)
-      the_word same = two_fields ∙ ap (λ w. Some (w ∷ value ∷ [], rest)) same
-
-      pub another_word : name ≢ word → Misshapen (word ∷ []) 1 bs
-      unfolding first_of
-      another_word other fields rest' line e =
-          let same : ◌≡◌ {A = List (List ℕ)} (name ∷ value ∷ []) (word ∷ fields) = ap first_of (sym two_fields ∙ line) in
-          absurd (other (let e : name ≡ word = cc in e))
-
 -- a field that is no number
-none_some : (f : List ℕ) (n : ℕ) → number_in f ≡ None → number_in f ≡ Some n → ⊥
-none_some f n e e' = let z : ◌≡◌ {A = ℕ} 0 1 = cc in omega arith
-
 pub no_first : (f : List ℕ) (fs : List (List ℕ)) → number_in f ≡ None → (ns : List ℕ) → AreNumbers (f ∷ fs) ns → ⊥
 no_first f fs none [] are = are
-no_first f fs none (n ∷ ns) are = none_some f n none are.0
+no_first f fs none (n ∷ ns) are = none-some n (sym none ∙ are.0)
 
 pub no_later :
     (f : List ℕ) (fs : List (List ℕ)) → ((ns : List ℕ) → AreNumbers fs ns → ⊥) → (ns : List ℕ) →

@@ -1,7 +1,7 @@
 -- The sections of a file put together: where the first wrong line is, and that there is none.
-use Rattle.std.proofs.Common.{◌≡◌, ℕ, ◌+◌, ◌≤◌, ◌≢◌, List, [], length, codes, Ok, Err, Result, MatchResult, sym, refl, ap, ◌∙◌, subst, arith}
+use Rattle.std.proofs.Common.{◌≡◌, ℕ, ◌+◌, ◌≢◌, List, [], length, codes, Ok, Err, Result, MatchResult, sym, ap, ◌∙◌, subst, arith}
 use Rattle.feasibility.specs.declared.row.Row.{Row}
-use Rattle.session.specs.Limits.{max_arrivals, max_bytes, max_ticks}
+use Rattle.session.specs.Limits.{max_arrivals, max_ticks}
 use Rattle.session.specs.Sections.{
   row_of,
   RowLine,
@@ -10,13 +10,7 @@ use Rattle.session.specs.Sections.{
   ArrivalsRead,
   ArrivalFault,
 }
-use Rattle.session.specs.Sessions.{
-  BeginsWithRows,
-  BeginsWithTicks,
-  BeginsWithArrivals,
-  IsSession,
-  FirstWrong,
-}
+use Rattle.session.specs.Sessions.{BeginsWithRows, BeginsWithTicks, BeginsWithArrivals, FirstWrong}
 use Rattle.session.specs.Sessions.FirstWrong.{ticks, arrivals, arrival, more}
 use Rattle.session.specs.declared.arrival.Arrival.{Arrival}
 use Rattle.session.specs.declared.fault.LineFault.{LineFault}
@@ -54,28 +48,30 @@ line_wrong P Q R line (Err e) (Err q) {p = p} all same is each =
     subst (λ r. Q r.fault × (r.line ≡ line)) one (subst Q (sym told.0) all, told.1)
 
 pub placed :
-    {bs : List ℕ} {e e' : LineFault} {line line' : ℕ} → FirstWrong bs e line → e' ≡ e → line' ≡ line →
-    FirstWrong bs e' line'
-placed {bs} {e} {e'} {line} {line'} wrong same there =
-    subst (λ l. FirstWrong bs e' l) (sym there) (subst (λ x. FirstWrong bs x line) (sym same) wrong)
+    {bs : List ℕ} {e : LineFault} {line line' : ℕ} → FirstWrong bs e line → line' ≡ line → FirstWrong bs e line'
+placed {bs} {e} wrong there = subst (FirstWrong bs e) (sym there) wrong
 
 -- n is the number of rows, as the code has it
 module _
-    (bs : List ℕ) (rows : List Row) (n : ℕ) (r₁ : List ℕ) (begins : BeginsWithRows bs rows r₁) (is : n ≡ length rows) where
+    {bs opened : List ℕ} {rows : List Row} {r₁ : List ℕ} {n : ℕ} (same : opened ≡ bs) (begun : BeginsWithRows opened rows r₁)
+    (is : n ≡ length rows) where
+  begins : BeginsWithRows bs rows r₁
+  begins = subst (λ bs. BeginsWithRows bs rows r₁) same begun
+
   pub ticks_wrong :
       {e : LineFault} {line : ℕ} → WrongHeading (codes "ticks") max_ticks r₁ e → line ≡ n + 2 → FirstWrong bs e line
-  ticks_wrong wrong there = placed (ticks begins wrong) refl (there ∙ ap (λ k. k + 2) is)
+  ticks_wrong wrong there = placed (ticks begins wrong) (there ∙ ap (λ k. k + 2) is)
 
-  module _ (t : ℕ) (r₂ : List ℕ) (line₂ : LimitedHeading (codes "ticks") max_ticks r₁ t r₂) where
+  module _ {t : ℕ} {r₂ : List ℕ} (line₂ : LimitedHeading (codes "ticks") max_ticks r₁ t r₂) where
     with_ticks : BeginsWithTicks bs rows t r₂
     with_ticks = record { after = r₁; begins = begins; heading = line₂ }
 
     pub arrivals_wrong :
         {e : LineFault} {line : ℕ} → WrongHeading (codes "arrivals") max_arrivals r₂ e → line ≡ n + 3 →
         FirstWrong bs e line
-    arrivals_wrong wrong there = placed (arrivals with_ticks wrong) refl (there ∙ ap (λ k. k + 3) is)
+    arrivals_wrong wrong there = placed (arrivals with_ticks wrong) (there ∙ ap (λ k. k + 3) is)
 
-    module _ (m : ℕ) (r₃ : List ℕ) (line₃ : LimitedHeading (codes "arrivals") max_arrivals r₂ m r₃) where
+    module _ {m : ℕ} {r₃ : List ℕ} (line₃ : LimitedHeading (codes "arrivals") max_arrivals r₂ m r₃) where
       with_arrivals : BeginsWithArrivals bs rows t m r₃
       with_arrivals = record { after = r₂; begins = with_ticks; heading = line₃ }
 
@@ -83,22 +79,11 @@ module _
       arrival_wrong {e} {line} wrong =
           arrival with_arrivals (subst (λ k. ArrivalFault k m (k + 4) r₃ e line) is wrong)
 
-      module _
-          (xs : List Arrival) (r₄ : List ℕ) (read : ArrivalsRead n r₃ xs r₄) (all : length xs ≡ m) where
-        read_all : ArrivalsRead (length rows) r₃ xs r₄
-        read_all = subst (λ k. ArrivalsRead k r₃ xs r₄) is read
-
-        whole : BeginsWithArrivals bs rows t (length xs) r₃
-        whole = subst (λ k. BeginsWithArrivals bs rows t k r₃) (sym all) with_arrivals
-
-        pub more_wrong :
-            {e : LineFault} {line : ℕ} → e ≡ Shape → line ≡ n + m + 4 → r₄ ≢ [] → FirstWrong bs e line
-        more_wrong shape there some = placed (more whole read_all some) shape (omega (arith, there, is, all))
-
-        pub is_session : length bs ≤ max_bytes → r₄ ≡ [] → IsSession bs rows t xs
-        is_session short none = record {
-          short = short;
-          after = r₃;
-          begins = whole;
-          read = subst (ArrivalsRead (length rows) r₃ xs) none read_all;
-        }
+      pub more_wrong :
+          {xs : List Arrival} {r₄ : List ℕ} {e : LineFault} {line : ℕ} → ArrivalsRead n r₃ xs r₄ → length xs ≡ m →
+          e ≡ Shape → line ≡ n + m + 4 → r₄ ≢ [] → FirstWrong bs e line
+      more_wrong {xs} {r₄} {line = line} read all shape there some =
+          let whole = subst (λ k. BeginsWithArrivals bs rows t k r₃) (sym all) with_arrivals in
+          let read_all = subst (λ k. ArrivalsRead k r₃ xs r₄) is read in
+          subst (λ e. FirstWrong bs e line) (sym shape)
+          (placed (more whole read_all some) (omega (arith, there, is, all)))

@@ -1,5 +1,7 @@
-use Rattle.session.proofs.Digits.{is_read, nine, room}
+use Rattle.session.proofs.Digits.{nine, room}
 use Rattle.session.proofs.field.value_of.Goals as goal
+use Rattle.std.proofs.lemmas.Bool.Decides.{nat_tests}
+use Rattle.std.proofs.lemmas.List.{drop_all}
 use Rattle.std.proofs.Common.{arith}
 
 pub overflow_mul-value : goal.overflow_mul-value
@@ -16,8 +18,5 @@ overflow_add-value c =
 pub returns : goal.returns
 returns c =
     let l = c.loop-byte in
-    let xs = c.args.bytes.now in
-    let all = c.loop-byte-test.false in (
-      is_read xs l.value l.byte-index all c.requires.some c.requires.few l.invariant.2 l.invariant.1,
-      nine l.value l.byte-index l.invariant.0 (omega arith),
-    )
+    let none = drop_all l.byte-index c.args.bytes.now c.loop-byte-test.false in
+    (grind (arith, nat_tests), nine l.value l.byte-index l.invariant.0 (omega arith))

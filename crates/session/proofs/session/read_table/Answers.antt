@@ -4,7 +4,7 @@ use Rattle.session.specs.LineKinds.{LineOf}
 use Rattle.session.specs.Reading.{left}
 use Rattle.session.specs.Sessions.FirstWrong.{heading, row}
 use Rattle.std.proofs.lemmas.Result.{err_from_is_err_and, MatchResult-weaker}
-use Rattle.std.proofs.Common.{[], ◌∷◌, codes, refl, sym, subst, rules}
+use Rattle.std.proofs.Common.{[], ◌∷◌, codes, sym, subst, rules}
 
 pub returns-in_err-count : goal.returns-in_err-count
 returns-in_err-count c =
@@ -12,7 +12,7 @@ returns-in_err-count c =
     let wrong
     = line_wrong _ _ _ 1 c.heading.result c.map_err.result c.heading.ensures c.map_err.ensures.cases
     c.in_err-count.was (λ e p k. search rules) in
-    rw (p.1, p.2) (placed (heading wrong.0) refl wrong.1)
+    rw (p.1, p.2) (placed (heading wrong.0) wrong.1)
 
 pub returns : goal.returns
 returns c =
