@@ -10,6 +10,7 @@ pub(crate) use reading::read_arrivals;
 // A session has no more of them.
 pub(crate) const MAX_ARRIVALS: usize = 256;
 
+// In place, since a call from C has no heap; no `ArrayVec` of the kit, since a session can be copied.
 #[derive(Clone, Copy)]
 pub struct Arrivals {
     cells: [Arrival; MAX_ARRIVALS],

@@ -21,7 +21,7 @@ pub enum LineFault {
 }
 
 impl LineFault {
-    // The number by which the fault is told.
+    // The number by which the fault is told. A variant with a cause can have no discriminant.
     pub fn number(self) -> u32
         ensures { result ≡ fault_number self }
     {
@@ -97,6 +97,7 @@ impl Fault {
     }
 }
 
+// By hand and not derived, since the contracts of the callers say which fault a `?` makes; so are those below.
 impl From<PlacedFault> for Fault {
     ghost from_gives = { λ e r. r ≡ in_line e };
 
