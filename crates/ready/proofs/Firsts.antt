@@ -1,12 +1,12 @@
 -- The first of the entries at the places below i, as the search for it goes on.
 use Rattle.std.proofs.Common.{◌≡◌, ℕ, suc, ◌+◌, ◌-◌, ◌<◌, ◌≤◌, true, false, [], ◌∷◌, length, get_or, Some, None, Option, option_map, fold, zero-add, sym, subst, ap, ◌∙◌, refl, inl, inr, arith, MatchOption}
 use Rattle.ready.specs.Entries.{Entries, slot, entry, held, filled, IsFirst}
-use Rattle.ready.specs.Places.{earliest}
 use Rattle.ready.specs.Order.{before, sooner}
+use Rattle.ready.specs.Places.{earliest}
 use Rattle.ready.specs.declared.entry.Entry.{Entry}
 use Rattle.ready.specs.declared.entry.Slot.{Slot}
-use Rattle.std.proofs.lemmas.Bool.{cases_eq, cond_both}
 use Rattle.std.proofs.lemmas.Bool.Decides.{nat_tests}
+use Rattle.std.proofs.lemmas.Bool.{cases_eq, cond_both}
 use Rattle.std.specs.List.{enumerate_from, filter_map}
 
 record Leads (m : Entries) (i : ℕ) (e : Entry) : Type 0 where

@@ -10,17 +10,17 @@ use Rattle.ready.specs.ByRow.{RowsOnce, entry_of, by_row, length_by_row, found_c
 use Rattle.ready.specs.Entries.{Entries, slot, has, filled, outside, found_answer, after}
 use Rattle.ready.specs.declared.entry.Entry.{Entry}
 use Rattle.ready.specs.declared.entry.Slot.{Slot}
+use Rattle.ready.specs.declared.refusal.ListRefusal.TheVariants.{RowOutside, NoEntry}
 use Rattle.ready.specs.declared.refusal.ListRefusal.{ListRefusal}
-use Rattle.std.proofs.lemmas.List.{length-take, set-set}
-use Rattle.std.proofs.lemmas.Bool.{cases_lt, lt-ltb, eqb-true}
 use Rattle.std.proofs.lemmas.Bool.Decides.{nat_tests}
+use Rattle.std.proofs.lemmas.Bool.{cases_lt, lt-ltb, eqb-true}
 use Rattle.std.proofs.lemmas.Iterator.Adapters.{position_from-zero}
 use Rattle.std.proofs.lemmas.List.Quantifiers.{position-Some}
+use Rattle.std.proofs.lemmas.List.{length-take, set-set}
 use Rattle.std.proofs.lemmas.Option.{get_or_from_slice_get}
+use Rattle.std.specs.List.{position_from}
 use Rattle.std.specs.Option.{ok_or}
 use Rattle.std.specs.Result.{MatchResult}
-use Rattle.std.specs.List.{position_from}
-use Rattle.ready.specs.declared.refusal.ListRefusal.TheVariants.{RowOutside, NoEntry}
 
 free : (es : List Entry) (row : ℕ) → outside row ≡ false → has (by_row es) row ≡ false → entry_of es row ≡ None
 free es row low z = at (entry_of es row) (sym (has_is es row low) ∙ z)

@@ -4,10 +4,10 @@ use Rattle.ready.specs.Entries.{Entries, slot, outside}
 use Rattle.ready.specs.Limits.{max_row}
 use Rattle.ready.specs.declared.entry.Entry.{Entry}
 use Rattle.ready.specs.declared.entry.Slot.{Slot}
-use Rattle.ready.specs.declared.refusal.ListRefusal.{ListRefusal}
 use Rattle.ready.specs.declared.refusal.ListRefusal.TheVariants.{RowOutside, NoEntry}
-use Rattle.std.specs.Option.{ok_or}
+use Rattle.ready.specs.declared.refusal.ListRefusal.{ListRefusal}
 use Rattle.std.specs.List.{range_with_len}
+use Rattle.std.specs.Option.{ok_or}
 
 -- How many have the row.
 abbrev pub count_of : List Entry → ℕ → ℕ

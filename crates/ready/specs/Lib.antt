@@ -2,5 +2,5 @@ pub mod ByRow
 pub mod Entries
 pub mod Limits
 pub mod Order
-pub mod Refusals
 pub mod Places
+pub mod Refusals

@@ -1,11 +1,11 @@
 -- What stands at which place.
 use Rattle.std.specs.Prelude.{ℕ, ◌+◌, ◌-◌, cond, fold, None, Option, option_map, Ok, Err, Result}
 use Rattle.ready.specs.Entries.{Entries, entry, has, outside}
-use Rattle.std.specs.List.{enumerate_from, filter_map}
 use Rattle.ready.specs.Order.{sooner}
 use Rattle.ready.specs.declared.entry.Entry.{Entry}
-use Rattle.ready.specs.declared.refusal.ListRefusal.{ListRefusal}
 use Rattle.ready.specs.declared.refusal.ListRefusal.TheVariants.{RowOutside, NoEntry}
+use Rattle.ready.specs.declared.refusal.ListRefusal.{ListRefusal}
+use Rattle.std.specs.List.{enumerate_from, filter_map}
 
 -- The place of a row's slot, if the row is from 1 to 32.
 abbrev pub place_of : ℕ → Result ℕ ListRefusal
