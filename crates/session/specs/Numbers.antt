@@ -19,6 +19,6 @@ value_after n (b ∷ bs) = value_after (n * 10 + (b - 48)) bs
 abbrev pub number_in : List ℕ → Option ℕ
 number_in bs = cond (is_number bs) (Some (value_after 0 bs)) None
 
--- A field is the number n, which is in the limit then.
+-- A field is the number n, and so within the limit.
 abbrev pub NumberOf : List ℕ → ℕ → Type 0
 NumberOf bs n = (number_in bs ≡ Some n) × (n ≤ max_number)

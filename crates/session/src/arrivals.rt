@@ -7,7 +7,7 @@ mod reading;
 use crate::arrival::Arrival;
 pub(crate) use reading::read_arrivals;
 
-// A session has no more of them.
+// How many of them a session has at most.
 pub(crate) const MAX_ARRIVALS: usize = 256;
 
 // In place, since a call from C has no heap; no `ArrayVec` of the kit, since a session can be copied.

@@ -10,6 +10,7 @@ pub struct Reader<'a> {
     at: usize,
 }
 
+// Contracts see the bytes of the file, and the place up to which they are read.
 impl<'a> Model for Reader<'a> {
     ghost use Rattle.std.specs.Prelude.{◌≤◌, length};
     ghost use Rattle.session.specs.Reading.{Reading};

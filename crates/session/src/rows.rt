@@ -10,15 +10,16 @@ use crate::reader::Reader;
 use feasibility::{Draft, Row};
 
 // Adds the row of the next line.
-pub(crate) fn read_row(reader: &mut Reader, draft: &mut Draft) -> Result<(), LineFault>
+fn read_row(reader: &mut Reader, draft: &mut Draft) -> Result<(), LineFault>
     ensures { MatchResult result (λ _. RowLine (rows_of draft.old.rows) (left reader.old) (rows_of draft.new.rows) (left reader.new)) (λ e. WrongRow (rows_of draft.old.rows) (left reader.old) e) }
 {
     let [cost, period, store] = reader.numbers::<3>()?;
-    Ok(draft.add(Row {
+    draft.add(Row {
         cost,
         period,
         store,
-    })?)
+    })?;
+    Ok(())
 }
 
 // Adds the rows of the next `count` lines, of which the first is line 2.
