@@ -13,10 +13,18 @@ enum Call {
     End,
 }
 
-// An answer by its numbers: the row and the state, 0 where a call answers none, or the refusal.
-type Answer = Result<(u32, u32), u32>;
+// What a call answers: nothing, the row that a tick is given to, or that row with the number of its job's state.
+#[derive(Clone, Copy, PartialEq, Eq, Debug)]
+enum Told {
+    Done,
+    Begun(u32),
+    Ended(u32, u32),
+}
 
-const DONE: Answer = Ok((0, 0));
+// That, or the number of the refusal.
+type Answer = Result<Told, u32>;
+
+const DONE: Answer = Ok(Told::Done);
 
 fn answer<L: ReadyList + Drop>(
     dispatcher: &mut Dispatcher<L>,
@@ -24,10 +32,12 @@ fn answer<L: ReadyList + Drop>(
     call: Call,
 ) -> Answer {
     match call {
-        Call::Take => dispatcher.take(table).map(|()| (0, 0)),
-        Call::Release(row) => dispatcher.release(row).map(|()| (0, 0)),
-        Call::Begin => dispatcher.begin().map(|row| (row, 0)),
-        Call::End => dispatcher.end().map(|(row, state)| (row, state.number())),
+        Call::Take => dispatcher.take(table).map(|()| Told::Done),
+        Call::Release(row) => dispatcher.release(row).map(|()| Told::Done),
+        Call::Begin => dispatcher.begin().map(|row| Told::Begun(row)),
+        Call::End => dispatcher
+            .end()
+            .map(|(row, state)| Told::Ended(row, state.number())),
     }
     .map_err(Refusal::number)
 }
@@ -50,23 +60,23 @@ const EXAMPLE: [(u32, u32, u32); 3] = [(1, 4, 0), (2, 6, 1), (2, 12, 1)];
 const EXAMPLE_CALLS: [(Call, Answer); 19] = [
     (Call::Take, DONE),
     (Call::Release(3), DONE),
-    (Call::Begin, Ok((3, 0))),
-    (Call::End, Ok((3, 0))),
+    (Call::Begin, Ok(Told::Begun(3))),
+    (Call::End, Ok(Told::Ended(3, 0))),
     (Call::Release(1), DONE),
     (Call::Release(2), DONE),
-    (Call::Begin, Ok((1, 0))),
-    (Call::End, Ok((1, 1))),
-    (Call::Begin, Ok((3, 0))),
-    (Call::End, Ok((3, 1))),
+    (Call::Begin, Ok(Told::Begun(1))),
+    (Call::End, Ok(Told::Ended(1, 1))),
+    (Call::Begin, Ok(Told::Begun(3))),
+    (Call::End, Ok(Told::Ended(3, 1))),
     (Call::Release(1), Err(14)),
-    (Call::Begin, Ok((2, 0))),
-    (Call::End, Ok((2, 0))),
-    (Call::Begin, Ok((2, 0))),
-    (Call::End, Ok((2, 1))),
-    (Call::Begin, DONE),
-    (Call::End, DONE),
-    (Call::Begin, DONE),
-    (Call::End, DONE),
+    (Call::Begin, Ok(Told::Begun(2))),
+    (Call::End, Ok(Told::Ended(2, 0))),
+    (Call::Begin, Ok(Told::Begun(2))),
+    (Call::End, Ok(Told::Ended(2, 1))),
+    (Call::Begin, Ok(Told::Begun(0))),
+    (Call::End, Ok(Told::Ended(0, 0))),
+    (Call::Begin, Ok(Told::Begun(0))),
+    (Call::End, Ok(Told::Ended(0, 0))),
 ];
 
 #[test]
@@ -108,18 +118,18 @@ const REFUSALS: [(Call, Answer); 24] = [
     (Call::Release(u32::MAX), Err(12)),
     (Call::Release(2), DONE),
     (Call::Release(2), Err(14)),
-    (Call::Begin, Ok((2, 0))),
+    (Call::Begin, Ok(Told::Begun(2))),
     (Call::Begin, Err(13)),
     (Call::Take, Err(8)),
     (Call::Release(1), Err(13)),
     (Call::Release(2), Err(13)),
     (Call::Release(4), Err(12)),
-    (Call::End, Ok((2, 0))),
+    (Call::End, Ok(Told::Ended(2, 0))),
     (Call::End, Err(16)),
     (Call::Release(2), Err(14)),
     (Call::Release(1), DONE),
-    (Call::Begin, Ok((1, 0))),
-    (Call::End, Ok((1, 1))),
+    (Call::Begin, Ok(Told::Begun(1))),
+    (Call::End, Ok(Told::Ended(1, 1))),
 ];
 
 // In each state of the tick, and of two refusals that apply the one that is tested first.
@@ -131,8 +141,8 @@ fn refuses_in_order(rt: HostRuntime) {
 const IDLE_CALLS: [(Call, Answer); 4] = [
     (Call::Take, DONE),
     (Call::Release(1), Err(12)),
-    (Call::Begin, DONE),
-    (Call::End, DONE),
+    (Call::Begin, Ok(Told::Begun(0))),
+    (Call::End, Ok(Told::Ended(0, 0))),
 ];
 
 // A table of no rows is taken too, and then every tick is idle.
@@ -182,10 +192,13 @@ fn runs_late<L: ReadyList + Drop>(rt: &impl Abort, list: L) {
             dispatcher.spare(4).map_err(Refusal::number),
             Ok(Some(5 - i64::from(clock)))
         );
-        assert_eq!(rt; answer(&mut dispatcher, &table, Call::Begin), Ok((row, 0)));
+        assert_eq!(rt;
+            answer(&mut dispatcher, &table, Call::Begin),
+            Ok(Told::Begun(row))
+        );
         assert_eq!(rt;
             answer(&mut dispatcher, &table, Call::End),
-            Ok((row, state))
+            Ok(Told::Ended(row, state))
         );
     }
     assert_eq!(rt; answer(&mut dispatcher, &table, Call::Release(4)), DONE);
@@ -199,18 +212,18 @@ fn runs_late<L: ReadyList + Drop>(rt: &impl Abort, list: L) {
 const EARLIER_JOB: [(Call, Answer); 15] = [
     (Call::Take, DONE),
     (Call::Release(2), DONE),
-    (Call::Begin, Ok((2, 0))),
-    (Call::End, Ok((2, 0))),
+    (Call::Begin, Ok(Told::Begun(2))),
+    (Call::End, Ok(Told::Ended(2, 0))),
     (Call::Release(1), DONE),
-    (Call::Begin, Ok((1, 0))),
-    (Call::End, Ok((1, 1))),
+    (Call::Begin, Ok(Told::Begun(1))),
+    (Call::End, Ok(Told::Ended(1, 1))),
     (Call::Release(1), DONE),
-    (Call::Begin, Ok((2, 0))),
-    (Call::End, Ok((2, 0))),
+    (Call::Begin, Ok(Told::Begun(2))),
+    (Call::End, Ok(Told::Ended(2, 0))),
     (Call::Release(2), Err(15)),
     (Call::Release(1), Err(15)),
-    (Call::Begin, Ok((2, 0))),
-    (Call::End, Ok((2, 2))),
+    (Call::Begin, Ok(Told::Begun(2))),
+    (Call::End, Ok(Told::Ended(2, 2))),
     (Call::Release(2), DONE),
 ];
 
