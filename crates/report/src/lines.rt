@@ -55,6 +55,7 @@ pub fn refusal_line(out: &mut [u8], time: u32, row: u32, refusal: u32) -> Result
 }
 
 // A line of three numbers of 32 bits, which never needs more than the least space.
+#[tactic(auto, using(crate::proofs::Short::short_line, crate::proofs::Short::three))]
 fn write_short_line(out: &mut [u8], word: &str, numbers: [u32; 3]) -> Result<usize, NoSpace>
     requires { length word.now ≤ 5 }
     ensures { Writes min_space (line_of word.now numbers) out.old out.new result }

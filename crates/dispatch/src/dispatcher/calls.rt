@@ -13,6 +13,7 @@ use ready::ReadyList;
 
 impl<L: ReadyList + Drop> Dispatcher<L> {
     // A dispatcher over a list in any state, with clock 0, no table and the tick closed.
+    #[tactic(auto, using(guarantee::specs::Lives::made))]
     pub fn new(list: L) -> Dispatcher<L>
         ensures fresh { result ≡ fresh (L.entries list) (L.cells list) }
         ensures life { Lived [] result }

@@ -1,4 +1,4 @@
-use Rattle.std.proofs.Common.{◌<◌, sym, refl, ◌∙◌, mod-lt, arith}
+use Rattle.std.proofs.Common.{◌<◌, sym, refl, ◌∙◌, arith}
 use Rattle.feasibility.proofs.Euclid.{divides_more, cancels_more}
 use Rattle.feasibility.proofs.divisors.gcd.Goals as goal
 use native.Mathlib.Nat.{mod_self, mul-mod_right}
@@ -12,9 +12,6 @@ loop-rest-preserved c =
       λ g b rest. c.loop-rest.invariant.2 g (divides_more g c.loop-rest.a c.loop-rest.b c.loop-rest.rest is b rest) b,
       λ g below. c.loop-rest.invariant.3 g (cancels_more c.loop-rest.a c.loop-rest.b c.loop-rest.rest g is pos below),
     )
-
-pub loop-rest-smaller : goal.loop-rest-smaller
-loop-rest-smaller c = mod-lt c.loop-rest.b (omega arith)
 
 pub returns : goal.returns
 returns c =
