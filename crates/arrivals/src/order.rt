@@ -5,7 +5,7 @@ ghost use Rattle.std.proofs.Common.{rules};
 use queue::Order;
 
 // An arrival with its place in the file. The derived order goes by the fields as they stand here.
-#[derive(Clone, Copy, PartialEq, Eq, PartialOrd, Ord)]
+#[derive(Clone, Copy, PartialEq, Eq, PartialOrd, Ord, Debug)]
 pub struct PlacedArrival {
     pub time: u32,
     pub row: u32,

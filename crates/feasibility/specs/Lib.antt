@@ -7,7 +7,6 @@ pub mod Laws
 pub mod Limits
 pub mod Refusals
 pub mod Schedules
-pub mod Searches
 pub mod Sums
 pub mod Tables
 pub mod Told

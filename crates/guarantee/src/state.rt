@@ -2,22 +2,22 @@
 ghost use Rattle.std.specs.Prelude.{◌≡◌};
 ghost use Rattle.guarantee.specs.Numbers.{state_number};
 
-// A tick is closed, or open on a row: 0 for an idle one, as its calls answer. The calls match on it by these names.
-#[derive(Clone, Copy)]
+// A tick is closed, or open on a row: 0 for an idle one, as the calls answer it. The calls match on it by these names.
+#[derive(Clone, Copy, PartialEq, Eq, Debug)]
 pub enum Tick {
     Closed,
     Open(u32),
 }
 
 // An unfinished job: its due time and the units that it lacks.
-#[derive(Clone, Copy)]
+#[derive(Clone, Copy, PartialEq, Eq, Debug)]
 pub struct Pending {
     pub due: u32,
     pub left: u32,
 }
 
 // When a row was last requested, and its job if that is unfinished.
-#[derive(Clone, Copy)]
+#[derive(Clone, Copy, PartialEq, Eq, Debug)]
 pub struct RowState {
     pub last: Option<u32>,
     pub job: Option<Pending>,

@@ -7,6 +7,7 @@ pub fn at_most_one_answer()
 {}
 
 // Of every list of bytes exactly one answer is right: a session, or the fault that comes first.
+#[tactic(auto, using(crate::proofs::OneAnswer::exactly_one))]
 pub fn exactly_one_answer()
     ensures { ExactlyOneAnswer }
 {}

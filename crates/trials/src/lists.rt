@@ -72,14 +72,14 @@ fn answers<L: ReadyList>(rt: &impl Abort, list: &mut L) {
 // A list with a cell for each row takes them all, each once, and then has room for none.
 fn takes_every_row<L: ReadyList>(rt: &impl Abort, list: &mut L) {
     assert_eq!(rt; list.capacity(), 32);
-    for row in 1..33u32 {
+    for row in 1..=32 {
         assert!(rt; !list.has(row));
         assert_eq!(rt; answer(list, Ask::Put(row, 100 - row)), Ok(()));
         assert!(rt; list.has(row));
         assert_eq!(rt; first(list), Some((row, 100 - row, false)));
     }
     assert_eq!(rt; list.count(), 32);
-    for row in 1..33u32 {
+    for row in 1..=32 {
         assert_eq!(rt; answer(list, Ask::Put(row, 0)), Err(19));
     }
     assert_eq!(rt; answer(list, Ask::Put(33, 0)), Err(18));

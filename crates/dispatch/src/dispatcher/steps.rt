@@ -2,6 +2,7 @@
 ghost use Rattle.std.specs.Prelude.{◌≡◌, ◌+◌, ◌≤◌, pos, ◌-ℤ◌, nat_lt};
 ghost use Rattle.dispatch.specs.Admissions.{admission};
 ghost use Rattle.dispatch.specs.Tables.{table_rows};
+ghost use Rattle.dispatch.specs.Ticks.{InBounds};
 ghost use Rattle.feasibility.specs.Contents.{numbered, least_told};
 ghost use Rattle.guarantee.specs.Limits.{max_clock};
 ghost use Rattle.guarantee.specs.States.{fresh};
@@ -24,7 +25,8 @@ pub(crate) enum Act {
 
 impl<L: ReadyList + Drop> Dispatcher<L> {
     pub(crate) fn unused(list: L) -> Dispatcher<L>
-        ensures { result ≡ fresh (L.entries list) (L.cells list) }
+        ensures fresh { result ≡ fresh (L.entries list) (L.cells list) }
+        ensures bounds { InBounds result }
     {
         let unasked = RowState {
             last: None,
@@ -40,7 +42,8 @@ impl<L: ReadyList + Drop> Dispatcher<L> {
     }
 
     pub(crate) fn take_step(&mut self, table: &Table) -> Result<(), Refusal>
-        ensures { Step self.old (Take (table_rows table.now)) result self.new }
+        ensures step { Step self.old (Take (table_rows table.now)) result self.new }
+        ensures bounds { InBounds self.new }
     {
         if self.table.is_some() {
             return Err(Refusal::TableTaken);
@@ -56,18 +59,15 @@ impl<L: ReadyList + Drop> Dispatcher<L> {
     }
 
     pub(crate) fn release_step(&mut self, row: u32) -> Result<(), Refusal>
-        ensures { Step self.old (Release row) result self.new }
+        ensures step { Step self.old (Release row) result self.new }
+        ensures bounds { InBounds self.new }
     {
-        let Some(table) = &self.table else {
-            return Err(Refusal::NoTable);
-        };
-        let Some(line) = table.row(row) else {
-            return Err(Refusal::UnknownRow);
-        };
+        let table = self.table.as_ref().ok_or(Refusal::NoTable)?;
+        let line = table.row(row).ok_or(Refusal::UnknownRow)?;
         admit(self.tick, Act::Release)?;
+        let clock = self.clock;
         let place = row as usize - 1;
         let before = self.states[place];
-        let clock = self.clock;
         if before
             .last
             .is_some_and(|last| is_early(clock, last, line.period))
@@ -77,9 +77,9 @@ impl<L: ReadyList + Drop> Dispatcher<L> {
         if before.job.is_some() {
             return Err(Refusal::EarlierUnfinished);
         }
-        let due = self.clock + line.period;
+        let due = clock + line.period;
         self.states[place] = RowState {
-            last: Some(self.clock),
+            last: Some(clock),
             job: Some(Pending {
                 due,
                 left: line.cost,
@@ -90,11 +90,10 @@ impl<L: ReadyList + Drop> Dispatcher<L> {
     }
 
     pub(crate) fn begin_step(&mut self) -> Result<u32, Refusal>
-        ensures { Step self.old Begin result self.new }
+        ensures step { Step self.old Begin result self.new }
+        ensures bounds { InBounds self.new }
     {
-        let Some(table) = &self.table else {
-            return Err(Refusal::NoTable);
-        };
+        let table = self.table.as_ref().ok_or(Refusal::NoTable)?;
         admit(self.tick, Act::Begin)?;
         if self.clock == MAX_CLOCK {
             return Err(Refusal::ClockAtLimit);
@@ -114,7 +113,8 @@ impl<L: ReadyList + Drop> Dispatcher<L> {
     }
 
     pub(crate) fn end_step(&mut self) -> Result<(u32, JobState), Refusal>
-        ensures { Step self.old End result self.new }
+        ensures step { Step self.old End result self.new }
+        ensures bounds { InBounds self.new }
     {
         if self.table.is_none() {
             return Err(Refusal::NoTable);
@@ -146,19 +146,14 @@ impl<L: ReadyList + Drop> Dispatcher<L> {
     }
 
     pub(crate) fn spare_step(&self, row: u32) -> Result<Option<i64>, Refusal>
-        ensures { Step self.now (Spare row) result self.now }
+        ensures step { Step self.now (Spare row) result self.now }
+        ensures bounds { InBounds self.now }
     {
-        let Some(table) = &self.table else {
-            return Err(Refusal::NoTable);
-        };
-        let Some(_) = table.row(row) else {
-            return Err(Refusal::UnknownRow);
-        };
-        let kept = self.states[row as usize - 1];
-        let Some(job) = kept.job else {
-            return Ok(None);
-        };
-        Ok(Some(spare_time(job.due, self.clock, job.left)))
+        let table = self.table.as_ref().ok_or(Refusal::NoTable)?;
+        table.row(row).ok_or(Refusal::UnknownRow)?;
+        let clock = self.clock;
+        let job = self.states[row as usize - 1].job;
+        Ok(job.map(|job| spare_time(job.due, clock, job.left)))
     }
 }
 

@@ -3,43 +3,32 @@ ghost use Rattle.std.specs.Prelude.{◌≡◌, ℕ, ◌+◌, ◌*◌, ◌<◌, �
 ghost use Rattle.feasibility.specs.Contents.{rows_of};
 ghost use Rattle.feasibility.specs.Hopeless.{BlockingIsHopeless};
 ghost use Rattle.feasibility.specs.Limits.{max_rows, max_period};
-ghost use Rattle.feasibility.specs.Searches.{NeverFails, FailsFirstAt};
 ghost use Rattle.feasibility.specs.Sums.{Σ<};
 ghost use Rattle.feasibility.specs.Tables.{row_at};
 ghost use Rattle.feasibility.specs.Verdicts.{demand, needed, Unblocked, FirstFailing};
 
-use crate::row::Row;
 use crate::rows::Rows;
 
 impl Rows {
-    // The place of the first row that fails, with its first failing length; what such a find is worth. The rows are
-    // searched one by one, and the lengths of each.
+    // The place of the first row that fails, with its first failing length; what such a find is worth. A row that uses no
+    // store is tried at no length.
     #[tactic(auto, using(crate::proofs::Refused::finds_are_worth))]
     pub(crate) fn first_failing(&self) -> Option<(usize, u32)>
         ensures found { MatchOption result (Unblocked (rows_of self.now)) (λ b. FirstFailing (rows_of self.now) b.0 b.1) }
         ensures worth { IfSome result (λ b. BlockingIsHopeless (rows_of self.now) b.0 b.1) }
     {
-        for (place, row) in self.as_slice().iter().enumerate() {
-            if let Some(length) = self.failing_length(place, *row) {
-                return Some((place, length));
+        let mut found = None;
+        'search: for (place, row) in self.as_slice().iter().enumerate() {
+            if let Some(shortest) = self.least_period(row.store) {
+                for length in shortest + 1..row.period {
+                    if length < self.units_needed(place, length) {
+                        found = Some((place, length));
+                        break 'search;
+                    }
+                }
             }
         }
-        None
-    }
-
-    // The first length at which the row at a place fails. A row that uses no store is tried at none.
-    fn failing_length(&self, place: usize, row: Row) -> Option<u32>
-        requires within { place < length (rows_of self.now) }
-        requires row { row ≡ row_at (rows_of self.now) place }
-        ensures { MatchOption result (NeverFails (rows_of self.now) place) (FailsFirstAt (rows_of self.now) place) }
-    {
-        let shortest = self.least_period(row.store)?;
-        for length in shortest + 1..row.period {
-            if length < self.units_needed(place, length) {
-                return Some(length);
-            }
-        }
-        None
+        found
     }
 
     // What the row at a place and the others need within `span` ticks. It asks itself for nothing again below its period.

@@ -49,7 +49,7 @@ impl Rows {
         ensures exact { Hyperperiod (rows_of self.old ++ row ∷ []) (hyperperiod_of self.new) }
         ensures within { hyperperiod_of self.new ≤ max_hyperperiod }
     {
-        place(&mut self.cells, self.count, row);
+        write_row(&mut self.cells, self.count, row);
         note_period(&mut self.least, row);
         self.count += 1;
         self.hyperperiod = hyperperiod;
@@ -57,7 +57,7 @@ impl Rows {
 }
 
 // Puts a row after the first `count`.
-fn place(cells: &mut [Row; 32], count: u32, row: Row)
+fn write_row(cells: &mut [Row; 32], count: u32, row: Row)
     requires { count < max_rows }
     ensures { cells.new ≡ slice_set cells.old count row }
 {

@@ -21,11 +21,8 @@ impl Rows {
         ensures value { result ≡ numbered (rows_of self.now) number }
         ensures limits { IfSome result Limited }
     {
-        if number == 0 || number > self.count {
-            return None;
-        }
-        let rows = self.as_slice();
-        Some(rows[number as usize - 1])
+        let place = number.checked_sub(1)?;
+        self.as_slice().get(place as usize).copied()
     }
 
     // The least positive number that every period divides.
