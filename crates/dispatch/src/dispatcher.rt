@@ -1,11 +1,8 @@
 // What a dispatcher keeps. Its calls are in `calls`.
-ghost use Rattle.std.specs.Prelude.{◌≡◌, ◌+◌, ◌≤◌, length};
 ghost use Rattle.std.specs.Option.{option_map};
-ghost use Rattle.dispatch.specs.Ticks.{ticks_open};
+ghost use Rattle.dispatch.specs.Ticks.{InBounds};
 ghost use Rattle.dispatch.specs.Tables.{table_rows};
-ghost use Rattle.guarantee.specs.Limits.{max_clock};
-ghost use Rattle.guarantee.specs.States.{State, tick_row};
-ghost use Rattle.ready.specs.Limits.{max_row};
+ghost use Rattle.guarantee.specs.States.{State};
 
 use feasibility::Table;
 use guarantee::{RowState, Tick};
@@ -40,5 +37,5 @@ impl<L: ReadyList + Drop> Model for Dispatcher<L> {
       cells = L.cells d.list;
     } };
 
-    ghost invariant = { λ d. (d.clock + ticks_open d.tick ≤ max_clock) × (length d.states ≡ max_row) × (tick_row d.tick ≤ max_row) };
+    ghost invariant = { λ d. InBounds d.clock d.tick d.states };
 }

@@ -57,7 +57,7 @@ pub record Least (rows : List Row) (r p : ℕ) : Type 0 where
 abbrev pub Unused : List Row → ℕ → Type 0
 Unused rows r = r ≢ 0 → (j : ℕ) → j < length rows → (row_at rows j).store ≢ r
 
--- The same if any does.
+-- The least period of the users of the store r, if it has any.
 abbrev pub least_kept : List Row → ℕ → Option ℕ
 least_kept rows r = cond (least_period rows r == 0) None (Some (least_period rows r))
 

@@ -17,7 +17,7 @@ impl<L: ReadyList + Drop> Dispatcher<L> {
     #[tactic(auto, using(guarantee::specs::Lives::made))]
     pub fn new(list: L) -> Dispatcher<L>
         ensures fresh { result ≡ fresh (L.entries list) (L.cells list) }
-        ensures bounds { InBounds result }
+        ensures bounds { InBounds result.clock result.tick result.states }
         ensures life { Lived [] result }
     {
         Dispatcher::unused(list)
@@ -26,7 +26,7 @@ impl<L: ReadyList + Drop> Dispatcher<L> {
     // Copies a sealed table, once and for all.
     pub fn take(&mut self, table: &Table) -> Result<(), Refusal>
         ensures step { Step self.old (Take (table_rows table.now)) result self.new }
-        ensures bounds { InBounds self.new }
+        ensures bounds { InBounds self.new.clock self.new.tick self.new.states }
         ensures life { LivesOn self.old (Take (table_rows table.now)) result self.new }
     {
         self.take_step(table)
@@ -35,7 +35,7 @@ impl<L: ReadyList + Drop> Dispatcher<L> {
     // Requests a row by its number: a new job, due one period after the clock.
     pub fn release(&mut self, row: u32) -> Result<(), Refusal>
         ensures step { Step self.old (Release row) result self.new }
-        ensures bounds { InBounds self.new }
+        ensures bounds { InBounds self.new.clock self.new.tick self.new.states }
         ensures life { LivesOn self.old (Release row) result self.new }
     {
         self.release_step(row)
@@ -44,7 +44,7 @@ impl<L: ReadyList + Drop> Dispatcher<L> {
     // Opens a tick and answers the row that it is given to, 0 for none.
     pub fn begin(&mut self) -> Result<u32, Refusal>
         ensures step { Step self.old Begin result self.new }
-        ensures bounds { InBounds self.new }
+        ensures bounds { InBounds self.new.clock self.new.tick self.new.states }
         ensures life { LivesOn self.old Begin result self.new }
     {
         self.begin_step()
@@ -53,7 +53,7 @@ impl<L: ReadyList + Drop> Dispatcher<L> {
     // Closes the tick, and answers its row and the state of the row's job.
     pub fn end(&mut self) -> Result<(u32, JobState), Refusal>
         ensures step { Step self.old End result self.new }
-        ensures bounds { InBounds self.new }
+        ensures bounds { InBounds self.new.clock self.new.tick self.new.states }
         ensures life { LivesOn self.old End result self.new }
     {
         self.end_step()
@@ -62,7 +62,7 @@ impl<L: ReadyList + Drop> Dispatcher<L> {
     // The due time less the clock less the units left of a row's unfinished job; below zero if it will be late.
     pub fn spare(&self, row: u32) -> Result<Option<i64>, Refusal>
         ensures step { Step self.now (Spare row) result self.now }
-        ensures bounds { InBounds self.now }
+        ensures bounds { InBounds self.now.clock self.now.tick self.now.states }
         ensures life { LivesOn self.now (Spare row) result self.now }
     {
         self.spare_step(row)

@@ -26,7 +26,7 @@ pub(crate) enum Act {
 impl<L: ReadyList + Drop> Dispatcher<L> {
     pub(crate) fn unused(list: L) -> Dispatcher<L>
         ensures fresh { result ≡ fresh (L.entries list) (L.cells list) }
-        ensures bounds { InBounds result }
+        ensures bounds { InBounds result.clock result.tick result.states }
     {
         let unasked = RowState {
             last: None,
@@ -43,7 +43,7 @@ impl<L: ReadyList + Drop> Dispatcher<L> {
 
     pub(crate) fn take_step(&mut self, table: &Table) -> Result<(), Refusal>
         ensures step { Step self.old (Take (table_rows table.now)) result self.new }
-        ensures bounds { InBounds self.new }
+        ensures bounds { InBounds self.new.clock self.new.tick self.new.states }
     {
         if self.table.is_some() {
             return Err(Refusal::TableTaken);
@@ -60,7 +60,7 @@ impl<L: ReadyList + Drop> Dispatcher<L> {
 
     pub(crate) fn release_step(&mut self, row: u32) -> Result<(), Refusal>
         ensures step { Step self.old (Release row) result self.new }
-        ensures bounds { InBounds self.new }
+        ensures bounds { InBounds self.new.clock self.new.tick self.new.states }
     {
         let table = self.table.as_ref().ok_or(Refusal::NoTable)?;
         let line = table.row(row).ok_or(Refusal::UnknownRow)?;
@@ -91,7 +91,7 @@ impl<L: ReadyList + Drop> Dispatcher<L> {
 
     pub(crate) fn begin_step(&mut self) -> Result<u32, Refusal>
         ensures step { Step self.old Begin result self.new }
-        ensures bounds { InBounds self.new }
+        ensures bounds { InBounds self.new.clock self.new.tick self.new.states }
     {
         let table = self.table.as_ref().ok_or(Refusal::NoTable)?;
         admit(self.tick, Act::Begin)?;
@@ -114,7 +114,7 @@ impl<L: ReadyList + Drop> Dispatcher<L> {
 
     pub(crate) fn end_step(&mut self) -> Result<(u32, JobState), Refusal>
         ensures step { Step self.old End result self.new }
-        ensures bounds { InBounds self.new }
+        ensures bounds { InBounds self.new.clock self.new.tick self.new.states }
     {
         if self.table.is_none() {
             return Err(Refusal::NoTable);
@@ -147,7 +147,7 @@ impl<L: ReadyList + Drop> Dispatcher<L> {
 
     pub(crate) fn spare_step(&self, row: u32) -> Result<Option<i64>, Refusal>
         ensures step { Step self.now (Spare row) result self.now }
-        ensures bounds { InBounds self.now }
+        ensures bounds { InBounds self.now.clock self.now.tick self.now.states }
     {
         let table = self.table.as_ref().ok_or(Refusal::NoTable)?;
         table.row(row).ok_or(Refusal::UnknownRow)?;
