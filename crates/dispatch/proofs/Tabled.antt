@@ -1,6 +1,6 @@
 -- What a sealed table keeps.
 use Rattle.std.proofs.Common.{arith}
-use Rattle.dispatch.specs.Tables.{table_rows}
+use Rattle.dispatch.specs.Dispatchers.{table_rows}
 use Rattle.feasibility.specs.declared.table.Table.{Table}
 use Rattle.guarantee.specs.Rules.{Proper, Take}
 

@@ -1,3 +1,3 @@
 pub mod Admissions
-pub mod Tables
+pub mod Dispatchers
 pub mod Ticks

@@ -1,13 +1,13 @@
 // What a dispatcher keeps. Its calls are in `calls`.
-ghost use Rattle.std.specs.Option.{option_map};
-ghost use Rattle.dispatch.specs.Ticks.{InBounds};
-ghost use Rattle.dispatch.specs.Tables.{table_rows};
-ghost use Rattle.guarantee.specs.States.{State};
+ghost use Rattle.std.specs.Prelude.{◌≡◌, ◌+◌, ◌≤◌, length};
+ghost use Rattle.dispatch.specs.Ticks.{ticks_open};
+ghost use Rattle.guarantee.specs.Limits.{max_clock};
+ghost use Rattle.guarantee.specs.States.{tick_row};
+ghost use Rattle.ready.specs.Limits.{max_row};
 
 use feasibility::Table;
 use guarantee::{RowState, Tick};
 use ready::ReadyList;
-use std::marker::Model;
 
 mod calls;
 mod steps;
@@ -22,20 +22,7 @@ pub struct Dispatcher<L: ReadyList + Drop> {
     tick: Tick,
     // Of row k at place k - 1.
     states: [RowState; 32],
-}
-
-// Clauses see a dispatcher as its state, with the list by its meaning.
-impl<L: ReadyList + Drop> Model for Dispatcher<L> {
-    ghost Value = { State };
-
-    ghost view = { λ d. record {
-      clock = d.clock;
-      table = option_map table_rows d.table;
-      tick = d.tick;
-      states = d.states;
-      entries = L.entries d.list;
-      cells = L.cells d.list;
-    } };
-
-    ghost invariant = { λ d. InBounds d.clock d.tick d.states };
+    ghost early: { clock + ticks_open tick ≤ max_clock },
+    ghost long: { length states ≡ max_row },
+    ghost inside: { tick_row tick ≤ max_row },
 }

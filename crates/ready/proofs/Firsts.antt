@@ -1,5 +1,5 @@
 -- The first of the entries at the places below i, as the search for it goes on.
-use Rattle.std.proofs.Common.{◌≡◌, ℕ, suc, ◌+◌, ◌-◌, ◌<◌, ◌≤◌, true, false, [], ◌∷◌, length, get_or, Some, None, Option, option_map, fold, zero-add, sym, subst, ap, ◌∙◌, refl, inl, inr, arith, MatchOption}
+use Rattle.std.proofs.Common.{◌≡◌, ℕ, suc, ◌+◌, ◌-◌, ◌<◌, ◌≤◌, true, false, [], ◌∷◌, length, get_or, drop, Some, None, Option, option_map, fold, zero-add, sym, subst, ap, ◌∙◌, refl, inl, inr, arith, MatchOption}
 use Rattle.ready.specs.Entries.{Entries, slot, entry, held, filled, IsFirst}
 use Rattle.ready.specs.Order.{before, sooner}
 use Rattle.ready.specs.Places.{earliest}
@@ -91,6 +91,10 @@ ends m (Some b) long f =
 
 abbrev there : ℕ × Option Slot → Option Entry
 there p = option_map (entry (p.0 + 1)) p.1
+
+-- what the search comes to from place i on, best being the first of those below
+abbrev pub search_from : Entries → ℕ → Option Entry → Option Entry
+search_from m i best = fold sooner best (filter_map there (enumerate_from i (drop i m)))
 
 -- the search among the places from i on, where those below are gone through
 along :

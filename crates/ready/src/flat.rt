@@ -80,9 +80,16 @@ impl ReadyList for FlatList {
         self.found(row).is_ok()
     }
 
+    // A sum over the places, since a filtered count takes several times the steps.
     #[tactic(auto, using(crate::proofs::Counts::filled_is))]
     fn count(&self) -> usize {
-        self.slots.iter().filter(|slot| slot.is_some()).count()
+        self.slots
+            .iter()
+            .map(|slot| match slot {
+                Some(_) => 1,
+                None => 0,
+            })
+            .sum()
     }
 
     fn capacity(&self) -> usize {

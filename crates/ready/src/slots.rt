@@ -27,11 +27,13 @@ pub(crate) fn earliest(slots: &[Option<Slot>]) -> Option<Entry>
     requires { length slots.now ≡ max_row }
     ensures { result ≡ earliest slots.now }
 {
-    slots
-        .iter()
-        .enumerate()
-        .filter_map(|(place, slot)| entry_at(place, *slot))
-        .fold(None, earlier)
+    let mut best = None;
+    for (place, slot) in slots.iter().enumerate() {
+        if let Some(entry) = entry_at(place, *slot) {
+            best = earlier(best, entry);
+        }
+    }
+    best
 }
 
 // The entry whose slot stands at a place.

@@ -1,7 +1,8 @@
 // Reads a session from standard input and prints the verdict on its table, or the fault in the file.
 #![tactic(auto)]
 
-use arrayvec::ArrayVec;
+ghost use Rattle.std.specs.Prelude.{◌≤◌, length, IfOk};
+
 use report::{MIN_SPACE, fault_line, verdict_line};
 use session::read;
 use std::io;
@@ -11,10 +12,10 @@ use std::io::{Read, Write};
 const INPUT_SPACE: usize = 16_385;
 
 fn main(rt: HostRuntime) -> io::Result<()> {
-    let mut input = ArrayVec::<u8, INPUT_SPACE>::new();
-    io::copy(&mut rt.stdin().take(INPUT_SPACE as u64), &mut input)?;
+    let mut input = [0; INPUT_SPACE];
+    let length = fill(&mut rt.stdin(), &mut input)?;
     let mut line = [0; MIN_SPACE];
-    let written = match read(&input) {
+    let written = match read(&input[..length]) {
         Ok(session) => verdict_line(&mut line, session.table.judge()),
         Err(fault) => fault_line(&mut line, fault.number(), fault.line(), fault.cause()),
     };
@@ -22,4 +23,20 @@ fn main(rt: HostRuntime) -> io::Result<()> {
         Ok(end) => rt.stdout().write_all(&line[..end]),
         Err(_) => Ok(()),
     }
+}
+
+// Reads until the input ends or the space is full, and answers how much was read. A read asks for all the space that is
+// left, and is not tried again: `io::copy` asks for 8 KiB at most, which cuts a longer message of a socket off.
+fn fill<R: Read>(input: &mut R, space: &mut [u8]) -> io::Result<usize>
+    ensures { IfOk result (λ n. n ≤ length space.old) }
+{
+    let mut at = 0;
+    for _ in 0..space.len() {
+        let more = input.read(&mut space[at..])?;
+        if more == 0 {
+            break;
+        }
+        at += more;
+    }
+    Ok(at)
 }

@@ -2,7 +2,8 @@
 // file.
 #![tactic(auto)]
 
-use arrayvec::ArrayVec;
+ghost use Rattle.std.specs.Prelude.{◌≤◌, length, IfOk};
+
 use ready::{Entry, HeapList};
 use report::{fault_line, verdict_line};
 use session::read;
@@ -26,10 +27,10 @@ const NO_ENTRY: Entry = Entry {
 };
 
 fn main(rt: HostRuntime) -> io::Result<()> {
-    let mut input = ArrayVec::<u8, INPUT_SPACE>::new();
-    io::copy(&mut rt.stdin().take(INPUT_SPACE as u64), &mut input)?;
+    let mut input = [0; INPUT_SPACE];
+    let length = fill(&mut rt.stdin(), &mut input)?;
     let mut out = rt.stdout();
-    match read(&input) {
+    match read(&input[..length]) {
         Ok(session) => {
             let verdict = session.table.judge();
             print(&mut out, |line| verdict_line(line, verdict))?;
@@ -40,4 +41,20 @@ fn main(rt: HostRuntime) -> io::Result<()> {
             fault_line(line, fault.number(), fault.line(), fault.cause())
         }),
     }
+}
+
+// Reads until the input ends or the space is full, and answers how much was read. A read asks for all the space that is
+// left, and is not tried again: `io::copy` asks for 8 KiB at most, which cuts a longer message of a socket off.
+fn fill<R: Read>(input: &mut R, space: &mut [u8]) -> io::Result<usize>
+    ensures { IfOk result (λ n. n ≤ length space.old) }
+{
+    let mut at = 0;
+    for _ in 0..space.len() {
+        let more = input.read(&mut space[at..])?;
+        if more == 0 {
+            break;
+        }
+        at += more;
+    }
+    Ok(at)
 }

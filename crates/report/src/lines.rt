@@ -1,16 +1,15 @@
 // A line is a word and its numbers, in decimal without leading zeros, with one space before each number and a line feed
 // at the end. A call that writes one answers its length, line feed included, and alters no byte after it; or it refuses
 // for want of space, and alters none.
-ghost use Rattle.std.specs.Prelude.{◌≡◌, ◌≤◌, [], ◌∷◌, length};
+ghost use Rattle.std.specs.Prelude.{◌≡◌, ◌+◌, ◌≤◌, [], ◌∷◌, ◌++◌, length, drop};
 ghost use Rattle.feasibility.specs.Told.{told};
 ghost use Rattle.report.specs.Limits.{min_space};
-ghost use Rattle.report.specs.Lines.{line_of, verdict_text, fault_text, tick_text, refusal_text};
+ghost use Rattle.report.specs.Lines.{line_of, spaced, verdict_text, fault_text, tick_text, refusal_text};
 ghost use Rattle.report.specs.Writes.{Writes, space_for};
 
 use crate::space::{MIN_SPACE, NoSpace};
-use arrayvec::ArrayString;
 use feasibility::Verdict;
-use itoa::Buffer;
+use itoa::write_digits;
 
 // No line is longer: a word of 7 bytes, three numbers of 64 bits with a space before each, and a line feed.
 const MAX_LINE: usize = 71;
@@ -69,25 +68,51 @@ fn write_line(out: &mut [u8], word: &str, numbers: &[u64]) -> Result<usize, NoSp
     requires { (length word.now ≤ 7) × (length numbers.now ≤ 3) }
     ensures { Writes (space_for (line_of word.now numbers.now)) (line_of word.now numbers.now) out.old out.new result }
 {
-    let line = line(word, numbers);
-    if out.len() < MIN_SPACE || out.len() < line.len() {
+    if out.len() < MIN_SPACE {
         return Err(NoSpace);
     }
-    out[..line.len()].copy_from_slice(line.as_str().as_bytes());
+    let mut space = [0; MAX_LINE];
+    let line = line(&mut space, word, numbers);
+    if out.len() < line.len() {
+        return Err(NoSpace);
+    }
+    out[..line.len()].copy_from_slice(line);
     Ok(line.len())
 }
 
-// The text of a line.
-fn line(word: &str, numbers: &[u64]) -> ArrayString<MAX_LINE>
+// The text of a line. It is put into the space from its end, so that no number's length is asked for first.
+fn line<'a>(space: &'a mut [u8; MAX_LINE], word: &str, numbers: &[u64]) -> &'a [u8]
     requires { (length word.now ≤ 7) × (length numbers.now ≤ 3) }
-    ensures { result.bytes ≡ line_of word.now numbers.now }
+    ensures { result.now ≡ line_of word.now numbers.now }
 {
-    let mut line = ArrayString::new();
-    line.push_str(word);
-    for n in numbers {
-        line.push_str(" ");
-        line.push_str(Buffer::new().format(*n));
+    space[MAX_LINE - 1] = b'\n';
+    let mut at = MAX_LINE - 1;
+    for i in (0..numbers.len()).rev() {
+        at = put_number(space, at, numbers[i]);
     }
-    line.push_str("\n");
-    line
+    at = put_word(space, at, word);
+    &space[at..]
+}
+
+// Puts a space and a number before a place, and answers where they start.
+#[tactic(auto, using(crate::proofs::Numbers::at_most_twenty, crate::proofs::Numbers::one_before))]
+fn put_number(space: &mut [u8], end: usize, n: u64) -> usize
+    requires { (21 ≤ end) × (end ≤ length space.old) }
+    ensures start { result + length (spaced n) ≡ end }
+    ensures written { drop result space.new ≡ spaced n ++ drop end space.old }
+{
+    let at = write_digits(n, space, end) - 1;
+    space[at] = b' ';
+    at
+}
+
+// Puts a word before a place, and answers where it starts.
+fn put_word(space: &mut [u8], end: usize, word: &str) -> usize
+    requires { (length word.now ≤ end) × (end ≤ length space.old) }
+    ensures start { result + length word.now ≡ end }
+    ensures written { drop result space.new ≡ word.now ++ drop end space.old }
+{
+    let at = end - word.len();
+    space[at..end].copy_from_slice(word.as_bytes());
+    at
 }

@@ -184,6 +184,9 @@ fn takes_32_rows(rt: HostRuntime) -> Result<(), AllocError> {
     for _ in 0..33 {
         text.push_str("1 1 0\n")?;
     }
+    for _ in text.len()..256 {
+        text.push_str(" ")?;
+    }
     assert_eq!(rt; answer(text.as_bytes()), Err((25, 34, 4)));
     Ok(())
 }

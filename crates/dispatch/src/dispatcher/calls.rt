@@ -1,8 +1,7 @@
 // The calls of a dispatcher. Each promises the same two things: its step is the one that the rules define, and whatever
 // life led to it goes on with this call, with all that is promised of a life.
 ghost use Rattle.std.specs.Prelude.{◌≡◌, []};
-ghost use Rattle.dispatch.specs.Tables.{table_rows};
-ghost use Rattle.dispatch.specs.Ticks.{InBounds};
+ghost use Rattle.dispatch.specs.Dispatchers.{state, table_rows};
 ghost use Rattle.guarantee.specs.Lives.{Lived, LivesOn};
 ghost use Rattle.guarantee.specs.Rules.{Step, Take, Release, Begin, End, Spare};
 ghost use Rattle.guarantee.specs.States.{fresh};
@@ -16,54 +15,48 @@ impl<L: ReadyList + Drop> Dispatcher<L> {
     // A dispatcher over a list in any state, with clock 0, no table and the tick closed.
     #[tactic(auto, using(guarantee::specs::Lives::made))]
     pub fn new(list: L) -> Dispatcher<L>
-        ensures fresh { result ≡ fresh (L.entries list) (L.cells list) }
-        ensures bounds { InBounds result.clock result.tick result.states }
-        ensures life { Lived [] result }
+        ensures fresh { state L.entries L.cells result ≡ fresh (L.entries list) (L.cells list) }
+        ensures life { Lived [] (state L.entries L.cells result) }
     {
         Dispatcher::unused(list)
     }
 
     // Copies a sealed table, once and for all.
     pub fn take(&mut self, table: &Table) -> Result<(), Refusal>
-        ensures step { Step self.old (Take (table_rows table.now)) result self.new }
-        ensures bounds { InBounds self.new.clock self.new.tick self.new.states }
-        ensures life { LivesOn self.old (Take (table_rows table.now)) result self.new }
+        ensures step { Step (state L.entries L.cells self.old) (Take (table_rows table.now)) result (state L.entries L.cells self.new) }
+        ensures life { LivesOn (state L.entries L.cells self.old) (Take (table_rows table.now)) result (state L.entries L.cells self.new) }
     {
         self.take_step(table)
     }
 
     // Requests a row by its number: a new job, due one period after the clock.
     pub fn release(&mut self, row: u32) -> Result<(), Refusal>
-        ensures step { Step self.old (Release row) result self.new }
-        ensures bounds { InBounds self.new.clock self.new.tick self.new.states }
-        ensures life { LivesOn self.old (Release row) result self.new }
+        ensures step { Step (state L.entries L.cells self.old) (Release row) result (state L.entries L.cells self.new) }
+        ensures life { LivesOn (state L.entries L.cells self.old) (Release row) result (state L.entries L.cells self.new) }
     {
         self.release_step(row)
     }
 
     // Opens a tick and answers the row that it is given to, 0 for none.
     pub fn begin(&mut self) -> Result<u32, Refusal>
-        ensures step { Step self.old Begin result self.new }
-        ensures bounds { InBounds self.new.clock self.new.tick self.new.states }
-        ensures life { LivesOn self.old Begin result self.new }
+        ensures step { Step (state L.entries L.cells self.old) Begin result (state L.entries L.cells self.new) }
+        ensures life { LivesOn (state L.entries L.cells self.old) Begin result (state L.entries L.cells self.new) }
     {
         self.begin_step()
     }
 
     // Closes the tick, and answers its row and the state of the row's job.
     pub fn end(&mut self) -> Result<(u32, JobState), Refusal>
-        ensures step { Step self.old End result self.new }
-        ensures bounds { InBounds self.new.clock self.new.tick self.new.states }
-        ensures life { LivesOn self.old End result self.new }
+        ensures step { Step (state L.entries L.cells self.old) End result (state L.entries L.cells self.new) }
+        ensures life { LivesOn (state L.entries L.cells self.old) End result (state L.entries L.cells self.new) }
     {
         self.end_step()
     }
 
     // The due time less the clock less the units left of a row's unfinished job; below zero if it will be late.
     pub fn spare(&self, row: u32) -> Result<Option<i64>, Refusal>
-        ensures step { Step self.now (Spare row) result self.now }
-        ensures bounds { InBounds self.now.clock self.now.tick self.now.states }
-        ensures life { LivesOn self.now (Spare row) result self.now }
+        ensures step { Step (state L.entries L.cells self.now) (Spare row) result (state L.entries L.cells self.now) }
+        ensures life { LivesOn (state L.entries L.cells self.now) (Spare row) result (state L.entries L.cells self.now) }
     {
         self.spare_step(row)
     }

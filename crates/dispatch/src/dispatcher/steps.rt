@@ -1,8 +1,7 @@
 // What each call of a dispatcher does.
 ghost use Rattle.std.specs.Prelude.{◌≡◌, ◌+◌, ◌≤◌, pos, ◌-ℤ◌, nat_lt};
 ghost use Rattle.dispatch.specs.Admissions.{admission};
-ghost use Rattle.dispatch.specs.Tables.{table_rows};
-ghost use Rattle.dispatch.specs.Ticks.{InBounds};
+ghost use Rattle.dispatch.specs.Dispatchers.{state, table_rows};
 ghost use Rattle.feasibility.specs.Contents.{numbered, least_told};
 ghost use Rattle.guarantee.specs.Limits.{max_clock};
 ghost use Rattle.guarantee.specs.States.{fresh};
@@ -25,8 +24,7 @@ pub(crate) enum Act {
 
 impl<L: ReadyList + Drop> Dispatcher<L> {
     pub(crate) fn unused(list: L) -> Dispatcher<L>
-        ensures fresh { result ≡ fresh (L.entries list) (L.cells list) }
-        ensures bounds { InBounds result.clock result.tick result.states }
+        ensures { state L.entries L.cells result ≡ fresh (L.entries list) (L.cells list) }
     {
         let unasked = RowState {
             last: None,
@@ -42,8 +40,7 @@ impl<L: ReadyList + Drop> Dispatcher<L> {
     }
 
     pub(crate) fn take_step(&mut self, table: &Table) -> Result<(), Refusal>
-        ensures step { Step self.old (Take (table_rows table.now)) result self.new }
-        ensures bounds { InBounds self.new.clock self.new.tick self.new.states }
+        ensures { Step (state L.entries L.cells self.old) (Take (table_rows table.now)) result (state L.entries L.cells self.new) }
     {
         if self.table.is_some() {
             return Err(Refusal::TableTaken);
@@ -59,8 +56,7 @@ impl<L: ReadyList + Drop> Dispatcher<L> {
     }
 
     pub(crate) fn release_step(&mut self, row: u32) -> Result<(), Refusal>
-        ensures step { Step self.old (Release row) result self.new }
-        ensures bounds { InBounds self.new.clock self.new.tick self.new.states }
+        ensures { Step (state L.entries L.cells self.old) (Release row) result (state L.entries L.cells self.new) }
     {
         let table = self.table.as_ref().ok_or(Refusal::NoTable)?;
         let line = table.row(row).ok_or(Refusal::UnknownRow)?;
@@ -90,8 +86,7 @@ impl<L: ReadyList + Drop> Dispatcher<L> {
     }
 
     pub(crate) fn begin_step(&mut self) -> Result<u32, Refusal>
-        ensures step { Step self.old Begin result self.new }
-        ensures bounds { InBounds self.new.clock self.new.tick self.new.states }
+        ensures { Step (state L.entries L.cells self.old) Begin result (state L.entries L.cells self.new) }
     {
         let table = self.table.as_ref().ok_or(Refusal::NoTable)?;
         admit(self.tick, Act::Begin)?;
@@ -113,8 +108,7 @@ impl<L: ReadyList + Drop> Dispatcher<L> {
     }
 
     pub(crate) fn end_step(&mut self) -> Result<(u32, JobState), Refusal>
-        ensures step { Step self.old End result self.new }
-        ensures bounds { InBounds self.new.clock self.new.tick self.new.states }
+        ensures { Step (state L.entries L.cells self.old) End result (state L.entries L.cells self.new) }
     {
         if self.table.is_none() {
             return Err(Refusal::NoTable);
@@ -146,8 +140,7 @@ impl<L: ReadyList + Drop> Dispatcher<L> {
     }
 
     pub(crate) fn spare_step(&self, row: u32) -> Result<Option<i64>, Refusal>
-        ensures step { Step self.now (Spare row) result self.now }
-        ensures bounds { InBounds self.now.clock self.now.tick self.now.states }
+        ensures { Step (state L.entries L.cells self.now) (Spare row) result (state L.entries L.cells self.now) }
     {
         let table = self.table.as_ref().ok_or(Refusal::NoTable)?;
         table.row(row).ok_or(Refusal::UnknownRow)?;

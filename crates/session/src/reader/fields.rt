@@ -13,9 +13,8 @@ use crate::reader::Reader;
 
 impl<'a> Reader<'a> {
     pub fn new(input: &'a [u8]) -> Reader<'a>
-        ensures input { result.input ≡ input.now }
+        ensures input { result.input.now ≡ input.now }
         ensures at { result.at ≡ 0 }
-        ensures inside { result.at ≤ length result.input }
         ensures left { left result ≡ input.now }
     {
         Reader { input, at: 0 }
@@ -25,11 +24,10 @@ impl<'a> Reader<'a> {
     pub fn next_field(&mut self) -> Option<Field<'a>>
         ensures field { MatchOption result (front_field (past_spaces (left self.old)) ≡ []) (λ f. (f.bytes.now ≡ front_field (past_spaces (left self.old))) × (0 < length f.bytes.now)) }
         ensures rest { left self.new ≡ past_field (past_spaces (left self.old)) }
-        ensures same { self.new.input ≡ self.old.input }
-        ensures inside { self.new.at ≤ length self.new.input }
+        ensures same { self.new.input.now ≡ self.old.input.now }
         ensures line { MatchOption result ((next_line (left self.new) ≡ next_line (left self.old)) × (line_over (left self.new) ≡ true)) (λ f. next_line (left self.old) ≡ with_field f.bytes.now (next_line (left self.new))) }
-        ensures place { IfSome result (λ f. f.bytes.now ≡ between f.at self.new.at self.old.input) }
-        ensures stands { MatchOption result (OverAt self.old.input self.old.at self.new.at) (λ f. FieldAt self.old.input self.old.at f.at self.new.at f.bytes.now) }
+        ensures place { IfSome result (λ f. f.bytes.now ≡ between f.at self.new.at self.old.input.now) }
+        ensures stands { MatchOption result (OverAt self.old.input.now self.old.at self.new.at) (λ f. FieldAt self.old.input.now self.old.at f.at self.new.at f.bytes.now) }
     {
         let input = self.input;
         let (start, end) = field_bounds(input, self.at);

@@ -2,4 +2,4 @@ use Rattle.dispatch.proofs.dispatcher.Dispatcher.begin.Goals as goal
 use Rattle.guarantee.proofs.Alive.{lives_on}
 
 pub returns : goal.returns
-returns g c = record { step = c.begin_step.ensures.step; bounds = c.begin_step.ensures.bounds; life = lives_on _ _ _ _ tt c.begin_step.ensures.step }
+returns g c = record { step = c.begin_step.ensures; life = lives_on _ _ _ _ tt c.begin_step.ensures }

@@ -5,7 +5,6 @@ use Rattle.guarantee.proofs.Alive.{lives_on}
 pub returns : goal.returns
 returns g c =
     record {
-      step = c.take_step.ensures.step;
-      bounds = c.take_step.ensures.bounds;
-      life = lives_on _ _ _ _ (proper c.args.table.now) c.take_step.ensures.step;
+      step = c.take_step.ensures;
+      life = lives_on _ _ _ _ (proper c.args.table.now) c.take_step.ensures;
     }
